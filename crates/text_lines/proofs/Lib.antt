@@ -1,0 +1,3 @@
+mod Digits
+mod FirstByte
+pub mod Spelling
