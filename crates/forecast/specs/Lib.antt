@@ -1,0 +1,3 @@
+pub mod Hours
+pub mod Checking
+pub mod Answers
