@@ -1,0 +1,3 @@
+mod Finding
+mod Fronts
+mod Writing

@@ -1,0 +1,4 @@
+pub mod Lines
+pub mod Reading
+pub mod Report
+pub mod Job
