@@ -1,0 +1,5 @@
+pub mod Limits
+pub mod Sets
+pub mod Lists
+pub mod Laws
+pub mod Filling
