@@ -1,0 +1,4 @@
+pub mod Dealt
+pub mod Granting
+pub mod Standing
+pub mod Reshelving
