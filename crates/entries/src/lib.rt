@@ -11,6 +11,7 @@ pub use lists::Entry;
 pub use lists::EntryDebug;
 pub use lists::EntryPartialEq;
 pub use lists::MAX_POOL;
+pub use lists::MAX_SHELF;
 pub use lists::MAX_WISH;
 pub use lists::PLACES;
 pub use lists::entry_of;

@@ -16,6 +16,9 @@ use crate::sets::is_depot;
 /// The most that a depot may wish for.
 pub const MAX_WISH: u32 = 1_000_000;
 
+/// The most that a shelf can hold: a share and a tray, each of at most half of it.
+pub const MAX_SHELF: u32 = 2_000_000_000;
+
 /// The most that the shelves of a list may hold together.
 pub const MAX_POOL: u32 = 1_000_000_000;
 

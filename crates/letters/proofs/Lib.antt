@@ -1,0 +1,11 @@
+pub mod Numbers
+pub mod Tests
+pub mod Carried
+pub mod Back
+pub mod Forth
+pub mod Compared
+pub mod Few
+pub mod Steps
+pub mod Copied
+pub mod Answered
+pub mod Written
