@@ -35,8 +35,8 @@ grown e place = record {
   count = place .count + 1;
 }
 
--- What putting an entry into a place answers and leaves. A refusal leaves the place as it was, and a list begun stays
--- one
+-- What putting an entry into a place answers and leaves. A refusal leaves the place as it was. A list begun below n
+-- stays one, for an entry of a depot below n with a lawful wish
 pub record Inserted (e : Entry) (before : Entries) (r : Result (Unit {0}) InsertRefusal)
     (after : Entries) : Type 0 where
   pub answer : r ≡ insertion e (listOf before)

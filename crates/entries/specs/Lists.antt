@@ -49,7 +49,8 @@ abbrev pub Orderly : ℕ → List Entry → Type 0
 Orderly d [] = Unit {0}
 Orderly d (e ∷ es) = MayFollow d e × Orderly (e .depot + 1) es
 
--- A list begun, of depots below n: it keeps all that a list keeps, and may have fewer than two entries
+-- A list begun, of depots below n. Where n is at most the greatest number of depots, it keeps all that a list keeps, but
+-- may have fewer than two entries
 pub record Begun (n : ℕ) (es : List Entry) : Type 0 where
   pub rises : Rises es
   pub depots : All (λ e. e .depot < n) es

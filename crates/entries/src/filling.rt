@@ -74,7 +74,8 @@ impl Entries {
 
     /// Puts an entry where its depot comes in rising order. It refuses an entry whose depot is there already, then one
     /// for which there is no room, then one with whose shelf the pool would pass the limit of a list; a refusal leaves
-    /// the place as it was. A list begun stays a list begun.
+    /// the place as it was. A list begun below some number stays one, for an entry of a depot below it with a lawful
+    /// wish.
     pub fn insert(&mut self, entry: Entry) -> Result<(), InsertRefusal>
         ensures { λ r. ⌜ Inserted entry (now (self .entry)) r (now (self .exit)) ⌝ }
     {

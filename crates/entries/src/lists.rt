@@ -110,8 +110,8 @@ fn rises(list: &[Entry]) -> bool
     true
 }
 
-/// Whether entries are a list: two to the greatest number of depots, rising by depot, with lawful wishes, and with
-/// shelves that together keep within the limit.
+/// Whether entries are a list: two to the greatest number of depots, rising by depot, with lawful depots and wishes,
+/// and with shelves that together keep within the limit.
 pub fn is_list(list: &[Entry]) -> bool
     ensures { λ r. ⌜ Decides r (Listed (now (list .entry))) ⌝ }
 {

@@ -30,7 +30,7 @@ impl Depots {
         Depots(0)
     }
 
-    /// The set of one depot alone, which is its mark. Callers have the depot from an entry or a record, where it lies
+    /// The set of one depot alone, which is its mark. Callers have the depot from a list or a record, where it lies
     /// below the greatest number.
     pub fn mark(depot: u8) -> Depots
         requires { ⌜ depot < maxDepots ⌝ }
@@ -68,7 +68,7 @@ impl Depots {
         Depots(self.0 | other.0)
     }
 
-    /// The set with a depot. Callers have the depot from an entry or a record, where it lies below the greatest number.
+    /// The set with a depot. Callers have the depot from a list or a record, where it lies below the greatest number.
     pub fn with(self, depot: u8) -> Depots
         requires { ⌜ depot < maxDepots ⌝ }
         ensures { λ r. ⌜ r .0 ≡ add (self .0) depot ⌝ }

@@ -2,11 +2,8 @@
 use mathlib.Core.List.{List}
 use Prim.Native.Nat.{ℕ, _+_, _-_, _/_, min}
 use Rattle.std.specs.shelf.Lists.{sumBy}
+use Rattle.entries.specs.Limits.{maxWish}
 use Rattle.forecast.specs.declared.lamp.Lamp.{Lamp}
-
--- the most that a depot may wish for
-abbrev pub maxWish : ℕ
-maxWish = 1000000
 
 -- the spares that one lamp needs over a period: how many rated lives its hours fill by the period's end
 abbrev pub lampNeed : ℕ → Lamp → ℕ

@@ -15,7 +15,7 @@ use std::alloc::AllocError;
 use std::alloc::Global;
 
 /// The text of the answer to the sheet that the bytes are. It refuses the first line of another form, then what the
-/// forecast refuses.
+/// forecast refuses; and it tells where memory ran out.
 pub fn answer(heap: Global, bytes: &[u8]) -> Result<String, Fault>
     ensures { λ r. ⌜ Does (now (bytes .entry)) r ⌝ }
 {

@@ -1,4 +1,4 @@
-// The format of letters: every mark, length, place and limit, each named once.
+// The format of letters: every mark, length and place, each named once.
 
 /// The bytes 48 4F, with which a letter begins.
 pub(crate) const LETTER_MARK: u16 = 0x484F;

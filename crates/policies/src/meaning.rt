@@ -10,9 +10,11 @@ ghost use Rattle.policies.specs.Policy.{Coded, OneEach, Conserving};
 use entries::Entry;
 
 /// A sharing policy: one share for each entry of a list, worked out from the list alone. Whoever writes one shows that
-/// the shares of every list are together what its shelves hold, and nothing more is known of it elsewhere.
+/// its code lies in its range, that a list has a share for each entry, that these are together what its shelves hold, and
+/// that its functions answer what it means. Nothing more is known of it elsewhere.
 pub trait Policy {
-    /// The policy's code, 1 to 255, which records and letters carry.
+    /// The policy's code, 1 to 255, which records and letters carry. `marked` and `governs` answer from it, and other code
+    /// asks them.
     const CODE: u8;
 
     // the code as clauses name it

@@ -10,9 +10,8 @@ ghost use Rattle.forecast.specs.Hours.{lampNeed, forecast, wishFor};
 use crate::hours::LampHours;
 use crate::lamp::Lamp;
 use crate::lamp::Refusal;
+use entries::MAX_WISH;
 
-/// The most that a depot may wish for.
-const MAX_WISH: u32 = 1_000_000;
 /// The most lamps of one forecast.
 const MAX_LAMPS: usize = 1_000;
 /// The longest period, in hours.
