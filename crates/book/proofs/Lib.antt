@@ -1,0 +1,11 @@
+pub mod Searched
+pub mod Kept
+pub mod Answering
+pub mod Plain
+pub mod Mailing
+pub mod Written
+pub mod Outcomes
+pub mod Listing
+pub mod Shares
+pub mod Allotting
+pub mod Reminding

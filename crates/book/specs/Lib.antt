@@ -1,0 +1,5 @@
+pub mod Fields
+pub mod View
+pub mod Calls
+pub mod Sharing
+pub mod Opening
