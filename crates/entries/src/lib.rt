@@ -1,4 +1,6 @@
 // Sets of depots, entries, and lists of entries.
+#![tactic(auto)]
+
 mod filling;
 mod lists;
 mod sets;

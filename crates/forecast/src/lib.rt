@@ -1,4 +1,6 @@
 //! How many spares a depot will need, from the burning hours of its lamps.
+#![tactic(auto)]
+
 mod hours;
 mod lamp;
 

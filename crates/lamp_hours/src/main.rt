@@ -1,4 +1,6 @@
 // Works out a depot's wish from its lamps' hours: a sheet on standard input, the answer on standard output.
+#![tactic(auto)]
+
 use anyhow::anyhow;
 use lamp_report::{answer, explain};
 use std::io::Read;

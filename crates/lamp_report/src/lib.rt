@@ -1,4 +1,6 @@
 //! The job of the program `lamp_hours`: reads a sheet of lamps' hours, and works out the text of the answer.
+#![tactic(auto)]
+
 mod job;
 mod reading;
 mod report;

@@ -2,6 +2,8 @@
 //
 // `read` takes bytes apart into a letter or says what is wrong with them, and `write` puts a message's bytes at the
 // front of a buffer. The format stands in docs/LETTERS.md; `entry_codec` serves whoever else holds entries in bytes.
+#![tactic(auto)]
+
 mod entry_codec;
 mod entry_reader;
 mod fault;

@@ -1,5 +1,7 @@
 // The tests of letters: every refusal at every place, the limits at their edges, every length, and the worked letters
 // written and read.
+#![tactic(auto)]
+
 #[cfg(test)]
 mod codec;
 #[cfg(test)]

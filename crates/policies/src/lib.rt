@@ -1,4 +1,6 @@
 // Sharing policies: what a list's entries get of the pieces on their shelves.
+#![tactic(auto)]
+
 mod dealing;
 mod evenly;
 mod meaning;

@@ -1,4 +1,6 @@
 // Policies of others, written as anybody can write one, and all policies on examples.
+#![tactic(auto)]
+
 mod keeping;
 mod last;
 

@@ -3,6 +3,8 @@
 // The definitions stand in specs/: a record and its law, every call, the ordered lines of Receive, series of calls and
 // the three promises. Of code there is the choice of a line, which a record's Receive is to carry out, and the types
 // that it speaks of; the theorems stand as contracts of calls that do nothing.
+#![tactic(auto)]
+
 mod refusal;
 mod standing;
 mod step;

@@ -1,5 +1,7 @@
 //! Reading lines of text: words one blank apart, lines ended by 0A, numbers of one to ten digits without a leading
 //! zero.
+#![tactic(auto)]
+
 ghost use Rattle.std.specs.Prelude.{◌≡◌, ◌≤◌, true, length, ◌==◌};
 ghost use Rattle.std.specs.Char.{is_ascii_digit};
 ghost use Rattle.std.specs.List.{prefix_len};

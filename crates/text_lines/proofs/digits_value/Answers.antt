@@ -4,16 +4,16 @@ use Rattle.text_lines.specs.Numbers.{value_of}
 use Rattle.text_lines.proofs.Digits.{digit_between, value_bound}
 use Rattle.text_lines.proofs.digits_value.Goals as goal
 
-pub overflow-mul-value : goal.overflow-mul-value
-overflow-mul-value c =
+pub overflow_mul-value : goal.overflow_mul-value
+overflow_mul-value c =
     omega (arith, value_bound c.args.digits.now c.loop-digit.digit-index c.requires.each c.requires.few)
 
-pub overflow-sub-digit : goal.overflow-sub-digit
-overflow-sub-digit c =
+pub overflow_sub-digit : goal.overflow_sub-digit
+overflow_sub-digit c =
     (digit_between c.args.digits.now c.loop-digit.digit-index c.requires.each c.loop-digit-test.true).0
 
-pub overflow-add-value : goal.overflow-add-value
-overflow-add-value c =
+pub overflow_add-value : goal.overflow_add-value
+overflow_add-value c =
     let digits = c.args.digits.now in
     let place = c.loop-digit.digit-index in
     let between = digit_between digits place c.requires.each c.loop-digit-test.true in

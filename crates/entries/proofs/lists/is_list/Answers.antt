@@ -10,10 +10,10 @@ some_under true n = refl
 some_under false n = refl
 
 -- a pool was answered exactly where it is within the limit
-within_limit : (c : goal.After-is-some) → c.is-some.result ≡ leb (pool c.args.list.now) max_pool
+within_limit : (c : goal.After-is_some) → c.is_some.result ≡ leb (pool c.args.list.now) max_pool
 within_limit c =
     let p = pool c.args.list.now in
-    c.is-some.ensures ∙ (ap is_some c.pool-of.ensures ∙ some_under (leb p max_pool) p)
+    c.is_some.ensures ∙ (ap is_some c.pool_of.ensures ∙ some_under (leb p max_pool) p)
 
 pub returns-then-rises : goal.returns-then-rises
 returns-then-rises c =

@@ -13,37 +13,37 @@ use Rattle.text_lines.proofs.Reader.number.Goals as goal
 few_digits : (digits : List ℕ) → is_number digits ≡ true → length digits ≤ 10
 few_digits digits number = grind (arith, nat_tests)
 
-pub split-at-requires : goal.split-at-requires
-split-at-requires c =
-    omega (arith, c.count-digits.ensures, prefix_len-le-length is_ascii_digit c.args.self.now.rest.now)
+pub split_at-requires : goal.split_at-requires
+split_at-requires c =
+    omega (arith, c.count_digits.ensures, prefix_len-le-length is_ascii_digit c.args.self.now.rest.now)
 
-pub returns-then-not-is-number : goal.returns-then-not-is-number
-returns-then-not-is-number c =
+pub returns-then-not-is_number : goal.returns-then-not-is_number
+returns-then-not-is_number c =
     let bytes = c.args.self.now.rest.now in
-    let digits = c.split-at.ensures.front ∙ ap (λ n. take n bytes) c.count-digits.ensures in
-    let other : is_number (digits_at bytes) ≡ false = sym (c.if-not-is-number.ensures ∙ ap is_number digits) in
+    let digits = c.split_at.ensures.front ∙ ap (λ n. take n bytes) c.count_digits.ensures in
+    let other : is_number (digits_at bytes) ≡ false = sym (c.if-not-is_number.ensures ∙ ap is_number digits) in
     record {
       value = sym (cond-false _ _ _ other);
       past = sym (cond-false _ _ _ other);
       form = none_written bytes other;
     }
 
-pub digits-value-requires : goal.digits-value-requires
-digits-value-requires c =
+pub digits_value-requires : goal.digits_value-requires
+digits_value-requires c =
     let bytes = c.args.self.now.rest.now in
-    let digits = c.split-at.ensures.front ∙ ap (λ n. take n bytes) c.count-digits.ensures in
+    let digits = c.split_at.ensures.front ∙ ap (λ n. take n bytes) c.count_digits.ensures in
     record {
-      few = few_digits c.split-at.result.0.now (sym c.if-not-is-number.ensures);
+      few = few_digits c.split_at.result.0.now (sym c.if-not-is_number.ensures);
       each = ap all_ascii_digits digits ∙ front_digits bytes;
     }
 
 pub returns : goal.returns
 returns c =
     let bytes = c.args.self.now.rest.now in
-    let digits = c.split-at.ensures.front ∙ ap (λ n. take n bytes) c.count-digits.ensures in
-    let rest = c.split-at.ensures.back ∙ ap (λ n. drop n bytes) c.count-digits.ensures in
-    let number : is_number (digits_at bytes) ≡ true = sym (c.if-not-is-number.ensures ∙ ap is_number digits) in
-    let value = c.digits-value.ensures ∙ ap value_of digits in
+    let digits = c.split_at.ensures.front ∙ ap (λ n. take n bytes) c.count_digits.ensures in
+    let rest = c.split_at.ensures.back ∙ ap (λ n. drop n bytes) c.count_digits.ensures in
+    let number : is_number (digits_at bytes) ≡ true = sym (c.if-not-is_number.ensures ∙ ap is_number digits) in
+    let value = c.digits_value.ensures ∙ ap value_of digits in
     record {
       value = ap Some value ∙ sym (cond-true _ _ _ number);
       past = rest ∙ sym (cond-true _ _ _ number);

@@ -19,11 +19,11 @@ module _ (place : Entries) (e : Entry) (list : List Entry) (is : list ≡ list_o
   counted : length list ≡ min place.count max_depots → length (list_of place) ≡ min place.count max_depots
   counted told = sym (ap length is) ∙ told
 
-pub returns-then-on-list : goal.returns-then-on-list
-returns-then-on-list c =
+pub returns-then-on_list : goal.returns-then-on_list
+returns-then-on_list c =
     let place = c.args.self.now in
     let e = c.args.entry in
-    let there = present place e _ c.as-slice-list.ensures.list true c.if-on-list.ensures in
+    let there = present place e _ c.as_slice-list.ensures.list true c.if-on_list.ensures in
     record {
       answer = is_present e (list_of place) there;
       place = refl;
@@ -35,8 +35,8 @@ pub returns-then-self-ge-PLACES : goal.returns-then-self-ge-PLACES
 returns-then-self-ge-PLACES c =
     let place = c.args.self.now in
     let e = c.args.entry in
-    let absent = present place e _ c.as-slice-list.ensures.list false c.if-on-list.ensures in
-    let size = counted place e _ c.as-slice-list.ensures.list c.as-slice-list.ensures.counted in
+    let absent = present place e _ c.as_slice-list.ensures.list false c.if-on_list.ensures in
+    let size = counted place e _ c.as_slice-list.ensures.list c.as_slice-list.ensures.counted in
     record {
       answer = is_full e (list_of place) absent (omega (arith, as_many_marks));
       place = refl;
@@ -44,13 +44,13 @@ returns-then-self-ge-PLACES c =
       begun = λ n begun low wish. begun;
     }
 
-pub returns-then-not-may-hold : goal.returns-then-not-may-hold
-returns-then-not-may-hold c =
+pub returns-then-not-may_hold : goal.returns-then-not-may_hold
+returns-then-not-may_hold c =
     let place = c.args.self.now in
     let e = c.args.entry in
-    let absent = present place e _ c.as-slice-list.ensures.list false c.if-on-list.ensures in
-    let size = counted place e _ c.as-slice-list.ensures.list c.as-slice-list.ensures.counted in
-    let past = held place e _ c.as-slice-list.ensures.list false c.if-not-may-hold.ensures in
+    let absent = present place e _ c.as_slice-list.ensures.list false c.if-on_list.ensures in
+    let size = counted place e _ c.as_slice-list.ensures.list c.as_slice-list.ensures.counted in
+    let past = held place e _ c.as_slice-list.ensures.list false c.if-not-may_hold.ensures in
     record {
       answer = is_past_limit e (list_of place) absent (omega (arith, as_many_marks)) past;
       place = refl;
@@ -63,9 +63,9 @@ returns c =
     let place = c.args.self.now in
     let e = c.args.entry in
     let es = list_of place in
-    let absent = present place e _ c.as-slice-list.ensures.list false c.if-on-list.ensures in
-    let size = counted place e _ c.as-slice-list.ensures.list c.as-slice-list.ensures.counted in
-    let within = held place e _ c.as-slice-list.ensures.list true c.if-not-may-hold.ensures in
+    let absent = present place e _ c.as_slice-list.ensures.list false c.if-on_list.ensures in
+    let size = counted place e _ c.as_slice-list.ensures.list c.as_slice-list.ensures.counted in
+    let within = held place e _ c.as_slice-list.ensures.list true c.if-not-may_hold.ensures in
     record {
       answer = is_taken e es absent (omega (arith, as_many_marks)) within;
       place = c.put.ensures.place;

@@ -4,4 +4,4 @@ use Rattle.entries.proofs.sets.Depots.covers.Goals as goal
 
 pub returns : goal.returns
 unfolding covers
-returns c = c.is-empty.ensures ∙ ap (λ n. eqb n 0) c.minus.ensures
+returns c = c.is_empty.ensures ∙ ap (λ n. eqb n 0) c.minus.ensures

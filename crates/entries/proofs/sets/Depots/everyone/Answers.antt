@@ -4,14 +4,14 @@ use Rattle.entries.specs.Sets.{everyone}
 use Rattle.entries.proofs.Width.{as_many_marks, above_whole, above_fits}
 use Rattle.entries.proofs.sets.Depots.everyone.Goals as goal
 
-pub overflow-shl-result : goal.overflow-shl-result
-overflow-shl-result c = omega (arith, as_many_marks)
+pub overflow_shl-result : goal.overflow_shl-result
+overflow_shl-result c = omega (arith, as_many_marks)
 
-pub overflow-sub-result : goal.overflow-sub-result
-overflow-sub-result c = omega (arith, above_whole c.args.number c.requires, pow_pos c.args.number)
+pub overflow_sub-result : goal.overflow_sub-result
+overflow_sub-result c = omega (arith, above_whole c.args.number c.requires, pow_pos c.args.number)
 
-pub overflow-cast-result-2 : goal.overflow-cast-result-2
-overflow-cast-result-2 c = omega (arith, above_whole c.args.number c.requires, above_fits c.args.number c.requires)
+pub overflow_cast-result-2 : goal.overflow_cast-result-2
+overflow_cast-result-2 c = omega (arith, above_whole c.args.number c.requires, above_fits c.args.number c.requires)
 
 pub returns : goal.returns
 unfolding everyone
