@@ -41,14 +41,14 @@ loop-entries-preserved c =
           (left_on was is _ e bs g inv.0) inv.4,
     )
 
-pub returns-in-default : goal.returns-in-default
-returns-in-default c =
+pub returns-in_default : goal.returns-in_default
+returns-in_default c =
     let was = c.loop-entries.reader in
     let bs = c.args.bytes.now in
     let place = c.loop-entries.entries in
     let inv = c.loop-entries.invariant in
     let long = length-take-le place.count place.items (omega arith) in
-    let short : length bs < _ = rw inv.0 at c.in-default.ensures.short in
+    let short : length bs < _ = rw inv.0 at c.in_default.ensures.short in
     record {
       list = copied_whole max_depots (list_of place) (left was.offset bs) (entries_in bs) (omega arith)
           (left_none was.offset bs short) inv.4;

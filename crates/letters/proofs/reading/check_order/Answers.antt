@@ -25,7 +25,7 @@ loop-place-preserved c =
     let g = c.in-Some.ensures in
     let inv = c.loop-place.invariant in (
       same_on was is p e bs g inv.0,
-      g.same-first ∙ inv.1,
+      g.same_first ∙ inv.1,
       within_on was is p e bs g inv.0,
       order_passed c.loop-place.least was.offset is.offset c.from-least.result e
           (left is.offset bs) (left was.offset bs) _

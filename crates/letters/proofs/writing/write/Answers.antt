@@ -8,8 +8,8 @@ use Rattle.letters.proofs.Few.{message_few}
 use Rattle.letters.proofs.Written.{letter_written}
 use Rattle.letters.proofs.writing.write.Goals as goal
 
-pub letter-len-len-requires : goal.letter-len-len-requires
-letter-len-len-requires c =
+pub letter_len-len-requires : goal.letter_len-len-requires
+letter_len-len-requires c =
     let m = c.args.message.now in
     record {
       placed = m.placed;
@@ -29,13 +29,13 @@ returns c =
     let es = entries_bytes (list_of m.entries) in
     let was = c.args.buffer.now in
     let done =
-    letter_written head es was c.copy-from-slice.new.self c.write-entries.new.buffer _ refl
-    (c.copy-from-slice.ensures.after ∙ c.head-bytes.ensures) c.write-entries.ensures in
+    letter_written head es was c.copy_from_slice.new.self c.write_entries.new.buffer _ refl
+    (c.copy_from_slice.ensures.after ∙ c.head_bytes.ensures) c.write_entries.ensures in
     record {
       wrote = (
         omega arith,
         omega arith,
-        done ∙ ap (λ n. head ++ (es ++ drop n was)) (sym c.letter-len-len.ensures.count),
+        done ∙ ap (λ n. head ++ (es ++ drop n was)) (sym c.letter_len-len.ensures.count),
       );
       form = message_read_back (message_says m) m.lawful;
     }

@@ -15,24 +15,24 @@ bounds-place-i g c = omega (arith, as_many_marks)
 pub loop-i-preserved : goal.loop-i-preserved
 loop-i-preserved g c =
     let place = c.args.place.now in
-    let es = c.as-slice-list.result.now in
+    let es = c.as_slice-list.result.now in
     let ns = g.P.Policy.share es in
     let i = c.loop-i.i in
-    let is : es ≡ list_of place = c.as-slice-list.ensures.list in
+    let is : es ≡ list_of place = c.as_slice-list.ensures.list in
     let here : i < length place.items = omega (arith, ap length is, length-take place.count place.items) in
     let as_many = ap (λ l. length (g.P.Policy.share l)) is ∙ g.met.P.Policy.size (list_of place) c.requires in
     let there : i < length ns = omega (arith, ap length is) in (
-      one_more place.items c.loop-i.place.items ns i c.share-at.result
-          c.loop-i.invariant.0 c.share-at.ensures here there,
+      one_more place.items c.loop-i.place.items ns i c.share_at.result
+          c.loop-i.invariant.0 c.share_at.ensures here there,
       c.loop-i.invariant.1,
     )
 
 pub returns : goal.returns
 returns g c =
     let place = c.args.place.now in
-    let es = c.as-slice-list.result.now in
+    let es = c.as_slice-list.result.now in
     let share = g.P.Policy.share in
-    let is : es ≡ list_of place = c.as-slice-list.ensures.list in
+    let is : es ≡ list_of place = c.as_slice-list.ensures.list in
     let size = g.met.P.Policy.size (list_of place) c.requires in
     let end : length (share (list_of place)) ≤ c.loop-i.i = omega (arith, ap length is) in
     let all : take c.loop-i.i (share es) ≡ share (list_of place) =

@@ -11,7 +11,7 @@ returns-then-next-depot g c =
     let d = c.args.depot in
     let there : i < length ns = omega (arith, g.met.P.Policy.size es c.requires) in
     let here = beside_here es ns i d c.loop-place-test.true there c.if-next-depot.true in
-    c.share-at.ensures ∙ (sym here ∙ c.loop-place.invariant)
+    c.share_at.ensures ∙ (sym here ∙ c.loop-place.invariant)
 
 pub loop-place-preserved : goal.loop-place-preserved
 loop-place-preserved g c =

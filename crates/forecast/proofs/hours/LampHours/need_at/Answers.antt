@@ -11,8 +11,8 @@ returns-then-place-len c =
     let past = slice_get_past (vec_items lamps) c.args.place (omega (arith, lamps.ok.0)) in
     sym (ap (option_map (lamp_need c.args.self.now.period)) past)
 
-pub lamp-need-requires : goal.lamp-need-requires
-lamp-need-requires c =
+pub lamp_need-requires : goal.lamp_need-requires
+lamp_need-requires c =
     let lamps = c.args.self.now.lamps in
     let at = lawful_at (vec_items lamps) c.args.place c.index.result.now c.args.self.now.each
     (omega (arith, lamps.ok.0)) in
@@ -23,4 +23,4 @@ returns c =
     let lamps = c.args.self.now.lamps in
     let there = slice_get_read (vec_items lamps) _ c.args.place c.index.result.now lamps.ok.0
     (omega arith) c.index.ensures in
-    ap Some c.lamp-need.ensures ∙ sym (ap (option_map (lamp_need c.args.self.now.period)) there)
+    ap Some c.lamp_need.ensures ∙ sym (ap (option_map (lamp_need c.args.self.now.period)) there)

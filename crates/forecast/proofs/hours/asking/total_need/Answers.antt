@@ -9,15 +9,15 @@ use Rattle.forecast.proofs.hours.asking.total_need.Goals as goal
 abbrev blank : Lamp
 blank = record { hours = 0; life = 0 }
 
-pub lamp-need-sum-requires : goal.lamp-need-sum-requires
-lamp-need-sum-requires c =
+pub lamp_need-sum-requires : goal.lamp_need-sum-requires
+lamp_need-sum-requires c =
     record {
       lawful = lawful_at c.args.lamps.now _ _ c.requires.each c.loop-lamp-test.true;
       short = c.requires.short;
     }
 
-pub overflow-add-sum : goal.overflow-add-sum
-overflow-add-sum c =
+pub overflow_add-sum : goal.overflow_add-sum
+overflow_add-sum c =
     let lamps = c.args.lamps.now in
     let i = c.loop-lamp.lamp-index in
     let rule = lamp_need c.args.period in

@@ -7,7 +7,7 @@ pub returns : goal.returns
 returns c =
     let bs = c.args.self.now.bytes.now in
     let i = c.args.self.now.offset in
-    let front = c.in-ok-entry.ensures in
+    let front = c.in_ok-entry.ensures in
     record {
       whole = omega (arith, front.0, ap length (take_rest bs i), length-drop i bs);
       placed = omega arith;

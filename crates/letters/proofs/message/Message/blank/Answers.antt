@@ -2,23 +2,20 @@ use Rattle.std.proofs.Common.{refl, arith}
 use Rattle.entries.specs.Limits.{max_depots}
 use Rattle.letters.proofs.message.Message.blank.Goals as goal
 
-pub invariant-of-result : goal.invariant-of-result
+pub invariant_of-result : goal.invariant_of-result
 unfolding max_depots
-invariant-of-result c = (
-  omega arith,
-  (
-    ∣ record {
-      kind_low = omega arith;
-      kind_high = omega arith;
-      sender_below = omega arith;
-      to_fits = omega arith;
-      leader_below = omega arith;
-      code_low = omega arith;
-      code_high = omega arith;
-      number_low = omega arith;
-      number_fits = omega arith;
-      carries = refl;
-    } ∣₁,
-    tt,
-  ),
-)
+invariant_of-result c = record {
+  placed = omega arith;
+  lawful = ∣ record {
+    kind_low = omega arith;
+    kind_high = omega arith;
+    sender_below = omega arith;
+    to_fits = omega arith;
+    leader_below = omega arith;
+    code_low = omega arith;
+    code_high = omega arith;
+    number_low = omega arith;
+    number_fits = omega arith;
+    carries = refl;
+  } ∣₁;
+}

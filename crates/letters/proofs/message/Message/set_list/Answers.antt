@@ -1,4 +1,4 @@
 use Rattle.letters.proofs.message.Message.set_list.Goals as goal
 
-pub invariant-of-self : goal.invariant-of-self
-invariant-of-self c = (c.requires.placed, (∣ c.requires.lawful ∣₁, tt))
+pub invariant_of-self : goal.invariant_of-self
+invariant_of-self c = record { placed = c.requires.placed; lawful = ∣ c.requires.lawful ∣₁ }

@@ -5,15 +5,15 @@ use Rattle.policies.proofs.wishes.WishesFirstPolicy.share_at.Goals as goal
 
 -- the sum that the code makes is the share
 share :
-    (c : goal.After-dealt-at)
-    → c.granted-at-mine.result.0 + c.dealt-at.result ≡ get_or (wishes_first c.args.list.now) c.args.place 0
+    (c : goal.After-dealt_at)
+    → c.granted_at-mine.result.0 + c.dealt_at.result ≡ get_or (wishes_first c.args.list.now) c.args.place 0
 share c =
     let es = c.args.list.now in
-    let given = c.granted-at-mine.ensures in
-    share_is es c.args.place c.pieces-of.ensures given.mine given.left c.dealt-at.ensures
+    let given = c.granted_at-mine.ensures in
+    share_is es c.args.place c.pieces_of.ensures given.mine given.left c.dealt_at.ensures
 
-pub overflow-add-result : goal.overflow-add-result
-overflow-add-result c =
+pub overflow_add-result : goal.overflow_add-result
+overflow_add-result c =
     let most = wishes_within c.args.list.now c.args.place c.requires.listed c.requires.within in
     omega (arith, share c)
 
