@@ -13,24 +13,24 @@ loop-reader-init c =
     c.new-lamps.ensures.items
     (subst (Line (first.shelf, first.period) (left first.reader)) c.new.ensures first.ensures)
 
-pub returns-in-default-two-numbers : goal.returns-in-default-two-numbers
-returns-in-default-two-numbers c =
+pub returns-in_default-two_numbers : goal.returns-in_default-two_numbers
+returns-in_default-two_numbers c =
     let lamps = c.loop-reader.lamps in
     misread c.in-Some.shelf c.in-Some.period (vec_items lamps) (left c.loop-reader.reader)
     c.args.bytes.now
     c.loop-reader.invariant (omega (arith, eqb-false _ 0 (sym c.loop-reader-test.ensures)))
-    c.in-default-two-numbers.ensures _ (omega (arith, lamps.ok.0))
+    c.in_default-two_numbers.ensures _ (omega (arith, lamps.ok.0))
 
 pub loop-reader-smaller : goal.loop-reader-smaller
 loop-reader-smaller c =
-    shorter _ (left c.in-Some-two-numbers.next) (left c.loop-reader.reader) c.in-Some-two-numbers.ensures
+    shorter _ (left c.in-Some-two_numbers.next) (left c.loop-reader.reader) c.in-Some-two_numbers.ensures
 
 pub loop-reader-preserved : goal.loop-reader-preserved
 loop-reader-preserved c =
     lamp_more c.in-Some.shelf c.in-Some.period (vec_items c.loop-reader.lamps)
     (vec_items c.push.new.self) _
-    (left c.loop-reader.reader) (left c.in-Some-two-numbers.next) c.args.bytes.now
-    c.in-ok-push.ensures.items c.loop-reader.invariant c.in-Some-two-numbers.ensures
+    (left c.loop-reader.reader) (left c.in-Some-two_numbers.next) c.args.bytes.now
+    c.in_ok-push.ensures.items c.loop-reader.invariant c.in-Some-two_numbers.ensures
 
 pub returns : goal.returns
 returns c =

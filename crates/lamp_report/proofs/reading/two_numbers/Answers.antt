@@ -8,13 +8,13 @@ returns-then-not-blank c =
     no_blank c.in-Some.first (left c.number.new.self) (left c.args.start) c.in-Some.ensures.form
     (sym c.if-not-blank.ensures.found)
 
-pub returns-in-default-number : goal.returns-in-default-number
-returns-in-default-number c =
+pub returns-in_default-number : goal.returns-in_default-number
+returns-in_default-number c =
     no_second c.in-Some.first (left c.number.new.self) (left c.blank.new.self) (left c.args.start)
-    c.in-Some.ensures.form c.blank.ensures.past c.in-default-number.ensures.form
+    c.in-Some.ensures.form c.blank.ensures.past c.in_default-number.ensures.form
 
-pub returns-then-not-line-end : goal.returns-then-not-line-end
-returns-then-not-line-end c =
+pub returns-then-not-line_end : goal.returns-then-not-line_end
+returns-then-not-line_end c =
     no_end c.in-Some.first c.in-Some-number.second (left c.number.new.self) (left c.blank.new.self)
     (left c.number-2.new.self) (left c.args.start) c.in-Some.ensures.form c.blank.ensures.past
-    c.in-Some-number.ensures.form (sym c.if-not-line-end.ensures.found)
+    c.in-Some-number.ensures.form (sym c.if-not-line_end.ensures.found)

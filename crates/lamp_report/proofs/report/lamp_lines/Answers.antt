@@ -10,12 +10,12 @@ loop-place-preserved c =
     let period = c.args.hours.now.period in
     let place = c.loop-place.place in
     let same = ap (λ ls. need_at period ls place) (sym c.lamps-lamps.ensures) in
-    let asked = c.unwrap-or-need.ensures ∙ ap (λ o. unwrap_or o 0) (c.need-at.ensures ∙ same) in
+    let asked = c.unwrap_or-need.ensures ∙ ap (λ o. unwrap_or o 0) (c.need_at.ensures ∙ same) in
     let rest = lamps_text (place + 1 + 2) period (drop (place + 1) lamps) in
-    ap (λ bs. bs ++ rest) c.in-ok-push-str.ensures.bytes
-    ∙ lamp_written period lamps place c.unwrap-or-need.result _ (string_bytes c.loop-place.text)
-    c.as-str.result.now
-    c.loop-place-test.true asked (c.as-str.ensures.value ∙ c.in-ok-line.ensures) c.loop-place.invariant
+    ap (λ bs. bs ++ rest) c.in_ok-push_str.ensures.bytes
+    ∙ lamp_written period lamps place c.unwrap_or-need.result _ (string_bytes c.loop-place.text)
+    c.as_str.result.now
+    c.loop-place-test.true asked (c.as_str.ensures.value ∙ c.in_ok-line.ensures) c.loop-place.invariant
 
 pub returns : goal.returns
 returns c =
