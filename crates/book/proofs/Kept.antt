@@ -41,14 +41,12 @@ number_high a s L ok = ∥∥₁_elim ok (hlevel props) (λ law. (law.rows.row L
 
 -- a state that is lawful because another is
 pub lawful_now : (a : Site) (s t u : State) → ((law : Law a s) → Law a u) → t ≡ u → ∥ Law a s ∥₁
-    → Bounds a t × (∥ Law a t ∥₁ × Unit {0})
-lawful_now a s t u keeps e ok =
-    let l : ∥ Law a t ∥₁ = ∥∥₁_map ok (λ law. subst (λ x. Law a x) (sym e) (keeps law)) in
-    (bounds_of a t l, (l, tt))
+    → ∥ Law a t ∥₁
+lawful_now a s t u keeps e ok = ∥∥₁_map ok (λ law. subst (λ x. Law a x) (sym e) (keeps law))
 
 -- a state that a call leads to
 pub kept : (a : Site) (s t : State) (o : Outcome) → ((law : Law a s) → Keeps a s o) → t ≡ after s o → ∥ Law a s ∥₁
-    → Bounds a t × (∥ Law a t ∥₁ × Unit {0})
+    → ∥ Law a t ∥₁
 kept a s t o keeps e ok = lawful_now a s t (after s o) (λ law. (keeps law).law) e ok
 
 pub most_five : (k : Standing) → standing_number k ≤ 5
@@ -80,5 +78,5 @@ unfolding rows_of
 blank_rows k = fun_ext (λ L. ap row_of (all_blank k L))
 
 -- a state that was written is the one that was to be lawful
-pub written_kept : (a : Site) (t u : State) → t ≡ u → ∥ Law a u ∥₁ → Bounds a t × (∥ Law a t ∥₁ × Unit {0})
-written_kept a t u e ok = let l = subst (λ x. ∥ Law a x ∥₁) (sym e) ok in (bounds_of a t l, (l, tt))
+pub written_kept : (a : Site) (t u : State) → t ≡ u → ∥ Law a u ∥₁ → ∥ Law a t ∥₁
+written_kept a t u e ok = subst (λ x. ∥ Law a x ∥₁) (sym e) ok

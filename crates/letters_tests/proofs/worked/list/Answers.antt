@@ -3,9 +3,9 @@ use Rattle.entries.specs.Limits.{max_depots}
 use Rattle.letters_tests.proofs.Lawfully.{lawful}
 use Rattle.letters_tests.proofs.worked.list.Goals as goal
 
-pub set-list-requires : goal.set-list-requires
+pub set_list-requires : goal.set_list-requires
 unfolding max_depots
-set-list-requires c =
+set_list-requires c =
     record {
       placed = omega arith;
       lawful =

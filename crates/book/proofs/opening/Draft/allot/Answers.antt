@@ -24,23 +24,20 @@ blank_still of allotted k pieces blank i h =
 abbrev with_shares : draft.Draft → (ℕ → ℕ) → ℕ → Draft
 with_shares d f m = record { total = d.total; n = d.depots; shares = f; allotted = m }
 
-pub invariant-of-self : goal.invariant-of-self
-invariant-of-self c =
+pub invariant_of-self : goal.invariant_of-self
+invariant_of-self c =
     let d = c.args.self.now in
     let of = d.shares.of in
     let k = c.args.depot in
     let e = sum_set d.depots k c.args.pieces of (omega arith) (omega arith) in
-    let z = d.blank k (sym c.if-contains.ensures) in (
-      d.lawful,
-      (
-        (omega arith, length-set _ _ _ ∙ d.whole.1),
-        (
+    let z = d.blank k (sym c.if-contains.ensures) in
+    record {
+      lawful = d.lawful;
+      whole = (omega arith, length-set _ _ _ ∙ d.whole.1);
+      blank =
           λ i h. blank_still of d.allotted.0 k c.args.pieces d.blank i
-              (subst (λ x. has x i ≡ false) c.with-self.ensures h),
-          tt,
-        ),
-      ),
-    )
+              (subst (λ x. has x i ≡ false) c.with-self.ensures h);
+    }
 
 pub returns-then-depot-self : goal.returns-then-depot-self
 returns-then-depot-self c =

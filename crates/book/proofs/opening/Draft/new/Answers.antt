@@ -9,13 +9,15 @@ use Rattle.book.proofs.opening.Draft.new.Goals as goal
 abbrev blank : Plan → (ℕ → ℕ) → ℕ → Draft
 blank p f m = record { total = p.total; n = p.depots; shares = f; allotted = m }
 
-pub invariant-of-result : goal.invariant-of-result
-invariant-of-result g c =
+pub invariant_of-result : goal.invariant_of-result
+invariant_of-result g c =
     let coded = g.met.P.Policy.coded in
-    let none = sum_nothing c.args.plan.depots 16 in (
-      (omega arith, omega arith, omega arith, omega arith),
-      ((omega arith, sym as_many_marks), ((λ i h. no_pieces 16 i), tt)),
-    )
+    let none = sum_nothing c.args.plan.depots 16 in
+    record {
+      lawful = (omega arith, omega arith, omega arith, omega arith);
+      whole = (omega arith, sym as_many_marks);
+      blank = λ i h. no_pieces 16 i;
+    }
 
 pub returns : goal.returns
 returns g c =

@@ -11,17 +11,17 @@ use Rattle.book.proofs.opening.Draft.open.Goals as goal
 abbrev opening_of : ℕ → (ℕ → ℕ) → Opening
 opening_of n shares = record { n = n; shares = shares }
 
-pub overflow-add-shares : goal.overflow-add-shares
-overflow-add-shares c =
+pub overflow_add-shares : goal.overflow_add-shares
+overflow_add-shares c =
     let d = c.args.self in
     omega (arith, share_within d.depots 0 (shares_of d.shares.of) (omega arith))
 
-pub invariant-of-result : goal.invariant-of-result
-invariant-of-result c =
+pub invariant_of-result : goal.invariant_of-result
+invariant_of-result c =
     let d = c.args.self in
     let of = d.shares.of in
     let e = sum_set d.depots 0 (shares_of of 0 + d.left) of (omega arith) (omega (arith, as_many_marks)) in
-    (d.lawful, ((omega arith, length-set _ _ _ ∙ d.whole.1), tt))
+    record { lawful = d.lawful; whole = (omega arith, length-set _ _ _ ∙ d.whole.1) }
 
 pub returns : goal.returns
 returns c =

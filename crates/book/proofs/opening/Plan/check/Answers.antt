@@ -8,12 +8,12 @@ pub returns-then-depots-lt1 : goal.returns-then-depots-lt1
 unfolding pick
 returns-then-depots-lt1 c = let w = as_many_marks in grind (arith, nat_tests)
 
-pub returns-then-total-gt-MAX-TOTAL : goal.returns-then-total-gt-MAX-TOTAL
+pub returns-then-total-gt-MAX_TOTAL : goal.returns-then-total-gt-MAX_TOTAL
 unfolding pick
-returns-then-total-gt-MAX-TOTAL c = let w = as_many_marks in grind (arith, nat_tests)
+returns-then-total-gt-MAX_TOTAL c = let w = as_many_marks in grind (arith, nat_tests)
 
-pub invariant-of-result : goal.invariant-of-result
-invariant-of-result c = ((omega arith, omega (arith, as_many_marks), omega arith), tt)
+pub invariant_of-result : goal.invariant_of-result
+invariant_of-result c = record { lawful = (omega arith, omega (arith, as_many_marks), omega arith) }
 
 pub returns : goal.returns
 unfolding pick

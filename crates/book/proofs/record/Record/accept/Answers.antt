@@ -17,6 +17,6 @@ settle-requires g c =
     let r = c.args.self.now in
     let es = list_of c.args.list.now in
     let P = policy_of g.P.Policy.code g.P.Policy.share in
-    let named : c.names-of-names.result.0 ≡ names es = c.names-of-names.ensures ∙ ap names c.as-slice.ensures.list in
+    let named : c.names_of-names.result.0 ≡ names es = c.names_of-names.ensures ∙ ap names c.as_slice.ensures.list in
     let set : c.with.result.0 ≡ pair (site r) c.args.head.leader = c.with.ensures ∙ ap (λ m. add m c.args.head.leader) c.mark.ensures in
     ?

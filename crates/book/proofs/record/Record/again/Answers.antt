@@ -6,14 +6,14 @@ use Rattle.book.proofs.Answering.{answer_refused, answer_served}
 use Rattle.book.proofs.Reminding.{again_refuses, again_serves}
 use Rattle.book.proofs.record.Record.again.Goals as goal
 
-pub returns-then-is-empty : goal.returns-then-is-empty
-returns-then-is-empty c =
+pub returns-then-is_empty : goal.returns-then-is_empty
+returns-then-is_empty c =
     let r = c.args.self.now in
     answer_refused _ _ (again_refuses (site r) (view r) c.args.kind c.args.to.0 []
-    (eqb-true _ 0 (sym c.is-empty.ensures ∙ c.if-is-empty.true)))
+    (eqb-true _ 0 (sym c.is_empty.ensures ∙ c.if-is_empty.true)))
 
 pub returns : goal.returns
 returns c =
     let r = c.args.self.now in
     answer_served _ _ _ (again_serves (site r) (view r) c.args.kind c.args.to.0 []
-    (eqb-false _ 0 (sym c.is-empty.ensures ∙ c.if-is-empty.false))) c.say.ensures
+    (eqb-false _ 0 (sym c.is_empty.ensures ∙ c.if-is_empty.false))) c.say.ensures

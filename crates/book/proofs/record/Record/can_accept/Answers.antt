@@ -8,15 +8,15 @@ use Rattle.book.specs.View.{site, view}
 use Rattle.book.proofs.Covering.{everyone_every}
 use Rattle.book.proofs.record.Record.can_accept.Goals as goal
 
-pub returns-then-on-list : goal.returns-then-on-list
-returns-then-on-list c y n =
+pub returns-then-on_list : goal.returns-then-on_list
+returns-then-on_list c y n =
     let r = c.args.self.now in
     let q = everyone_every r.identity.depots c.args.list.now in
-    let own = c.own-entry.ensures in
+    let own = c.own_entry.ensures in
     grind (arith, nat_tests)
 
-pub returns-else-on-list : goal.returns-else-on-list
-returns-else-on-list c y n =
+pub returns-else-on_list : goal.returns-else-on_list
+returns-else-on_list c y n =
     let r = c.args.self.now in
     let q = everyone_every r.identity.depots c.args.list.now in
     grind (arith, nat_tests)

@@ -5,21 +5,24 @@ use Rattle.book.proofs.Kept.{row_set, bounds_of, written_kept}
 use Rattle.book.proofs.Written.{state_is}
 use Rattle.book.proofs.record.Record.finish.Goals as goal
 
-pub overflow-add-self : goal.overflow-add-self
-overflow-add-self c =
+pub overflow_add-self : goal.overflow_add-self
+overflow_add-self c =
     let r = c.args.self.now in
     let b = (bounds_of (site r) _ c.requires.lawful).1.0 in
     omega arith
 
-pub invariant-of-self : goal.invariant-of-self
+pub invariant_of-self-clause-room : goal.invariant_of-self-clause-room
+invariant_of-self-clause-room c =
+    let r = c.args.self.now in
+    (length-set _ _ _ ∙ r.room.0, r.room.1, r.room.2, omega arith, omega arith)
+
+pub invariant_of-self-clause-kept : goal.invariant_of-self-clause-kept
 unfolding rows_of
-invariant-of-self c =
-    let r = c.args.self.now in (
-      (length-set _ _ _ ∙ r.room.0, r.room.1, r.room.2, omega arith, omega arith),
-      written_kept (site r) _ _
-          (state_is _ _ _ (row_set r.rows.of c.args.leader _ (omega arith)) refl c.none-self.ensures refl
-          refl) c.requires.lawful,
-    )
+invariant_of-self-clause-kept c =
+    let r = c.args.self.now in
+    written_kept (site r) _ _
+        (state_is _ _ _ (row_set r.rows.of c.args.leader _ (omega arith)) refl c.none-self.ensures refl
+        refl) c.requires.lawful
 
 pub returns : goal.returns
 unfolding rows_of

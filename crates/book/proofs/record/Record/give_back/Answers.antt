@@ -8,31 +8,27 @@ use Rattle.book.proofs.Kept.{kept, own_calls}
 use Rattle.book.proofs.Answering.{moved_refused, moved_served}
 use Rattle.book.proofs.record.Record.give_back.Goals as goal
 
-pub invariant-of-self : goal.invariant-of-self
+pub invariant_of-self-clause-kept : goal.invariant_of-self-clause-kept
 unfolding give_back outside pick
-invariant-of-self c =
-    let r = c.args.self.now in (
-      omega arith,
-      kept (site r) (view r) _ (give_back (site r) (view r) c.args.n)
-          (λ law. (own_calls (site r) (view r) law).give_back c.args.n) (grind (arith, nat_tests)) r.kept,
-    )
+invariant_of-self-clause-kept c =
+    let r = c.args.self.now in
+    kept (site r) (view r) _ (give_back (site r) (view r) c.args.n)
+        (λ law. (own_calls (site r) (view r) law).give_back c.args.n) (grind (arith, nat_tests)) r.kept
 
-pub invariant-of-self-else-engaged : goal.invariant-of-self-else-engaged
+pub invariant_of-self-else-engaged-clause-kept : goal.invariant_of-self-else-engaged-clause-kept
 unfolding give_back outside pick
-invariant-of-self-else-engaged c =
-    let r = c.args.self.now in (
-      omega arith,
-      kept (site r) (view r) _ (give_back (site r) (view r) c.args.n)
-          (λ law. (own_calls (site r) (view r) law).give_back c.args.n) (grind (arith, nat_tests)) r.kept,
-    )
+invariant_of-self-else-engaged-clause-kept c =
+    let r = c.args.self.now in
+    kept (site r) (view r) _ (give_back (site r) (view r) c.args.n)
+        (λ law. (own_calls (site r) (view r) law).give_back c.args.n) (grind (arith, nat_tests)) r.kept
 
 pub returns-then-n-lt1 : goal.returns-then-n-lt1
 unfolding give_back outside pick
 returns-then-n-lt1 c = moved_refused (grind (arith, nat_tests))
 
-pub returns-then-self-n-gt-MAX-POOL : goal.returns-then-self-n-gt-MAX-POOL
+pub returns-then-self-n-gt-MAX_POOL : goal.returns-then-self-n-gt-MAX_POOL
 unfolding give_back outside pick
-returns-then-self-n-gt-MAX-POOL c = moved_refused (grind (arith, nat_tests))
+returns-then-self-n-gt-MAX_POOL c = moved_refused (grind (arith, nat_tests))
 
 pub returns-then-engaged : goal.returns-then-engaged
 unfolding give_back outside pick

@@ -25,8 +25,8 @@ room place e = (
   subst (λ (p : Entries). p.count ≤ max_depots) (sym e) (omega arith),
 )
 
-pub invariant-of-result : goal.invariant-of-result
-invariant-of-result c =
+pub invariant_of-result : goal.invariant_of-result
+invariant_of-result c =
     let a = site_of c.args.identity in
     let list = room c.empty.result c.empty.ensures in
     let gathered = room c.empty-2.result c.empty-2.ensures in
@@ -35,7 +35,11 @@ invariant-of-result c =
     let l = ∣ subst (λ s. Law a s) (sym e) (law_kept.handed a c.args.share
     (record { depot = c.requires.depot; size = c.requires.depots; code_low = c.requires.code; code_high = omega arith })
     c.requires.share) ∣₁ in
-    ((sym as_many_marks, list.0, gathered.0, list.1, gathered.1), (bounds_of a _ l, (l, tt)))
+    record {
+      room = (sym as_many_marks, list.0, gathered.0, list.1, gathered.1);
+      bounds = bounds_of a _ l;
+      kept = l;
+    }
 
 pub returns : goal.returns
 returns c =

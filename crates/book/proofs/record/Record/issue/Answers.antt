@@ -8,14 +8,12 @@ use Rattle.book.proofs.Kept.{kept, own_calls}
 use Rattle.book.proofs.Answering.{moved_refused, moved_served}
 use Rattle.book.proofs.record.Record.issue.Goals as goal
 
-pub invariant-of-self : goal.invariant-of-self
+pub invariant_of-self-clause-kept : goal.invariant_of-self-clause-kept
 unfolding issue outside pick
-invariant-of-self c =
-    let r = c.args.self.now in (
-      omega arith,
-      kept (site r) (view r) _ (issue (site r) (view r) c.args.n)
-          (λ law. (own_calls (site r) (view r) law).issue c.args.n) (grind (arith, nat_tests)) r.kept,
-    )
+invariant_of-self-clause-kept c =
+    let r = c.args.self.now in
+    kept (site r) (view r) _ (issue (site r) (view r) c.args.n)
+        (λ law. (own_calls (site r) (view r) law).issue c.args.n) (grind (arith, nat_tests)) r.kept
 
 pub returns-then-n-lt1 : goal.returns-then-n-lt1
 unfolding issue outside pick

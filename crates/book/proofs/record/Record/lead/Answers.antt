@@ -24,63 +24,60 @@ pub returns-then-engaged : goal.returns-then-engaged
 unfolding lead pick
 returns-then-engaged c = call_refused (grind (arith, nat_tests))
 
-pub returns-then-not-is-empty : goal.returns-then-not-is-empty
+pub returns-then-not-is_empty : goal.returns-then-not-is_empty
 unfolding lead pick
-returns-then-not-is-empty c = call_refused (grind (arith, nat_tests))
+returns-then-not-is_empty c = call_refused (grind (arith, nat_tests))
 
 pub returns-then-self-eq0 : goal.returns-then-self-eq0
 unfolding lead pick
 returns-then-self-eq0 c = call_refused (grind (arith, nat_tests))
 
-pub returns-then-self-gt-MAX-POOL : goal.returns-then-self-gt-MAX-POOL
+pub returns-then-self-gt-MAX_POOL : goal.returns-then-self-gt-MAX_POOL
 unfolding lead pick
-returns-then-self-gt-MAX-POOL c = call_refused (grind (arith, nat_tests))
+returns-then-self-gt-MAX_POOL c = call_refused (grind (arith, nat_tests))
 
 pub returns-then-number : goal.returns-then-number
 unfolding lead pick rows_of
 returns-then-number c = call_refused (grind (arith, nat_tests))
 
-pub overflow-add-self : goal.overflow-add-self
+pub overflow_add-self : goal.overflow_add-self
 unfolding rows_of
-overflow-add-self c =
+overflow_add-self c =
     let r = c.args.self.now in
     let h = number_high (site r) (view r) r.identity.depot r.kept in
     omega arith
 
-pub invariant-of-self : goal.invariant-of-self
+pub invariant_of-self-clause-room : goal.invariant_of-self-clause-room
+invariant_of-self-clause-room c =
+    let r = c.args.self.now in
+    (length-set _ _ _ ∙ r.room.0, r.room.1, length-set _ _ _ ∙ r.room.2, r.room.3, omega (arith, as_many_marks))
+
+pub invariant_of-self-clause-kept : goal.invariant_of-self-clause-kept
 unfolding rows_of next
-invariant-of-self c =
+invariant_of-self-clause-kept c =
     let r = c.args.self.now in
     let q = leads (site r) (view r) (sym c.engaged.ensures ∙ c.if-engaged.false)
-    (sym c.is-empty.ensures ∙ c.if-not-is-empty.false) (λ e. omega arith) (omega arith) (λ e. omega arith) in
+    (sym c.is_empty.ensures ∙ c.if-not-is_empty.false) (λ e. omega arith) (omega arith) (λ e. omega arith) in
     let e = state_is r.shelf r.tray r.wish
     (row_set r.rows.of r.identity.depot (next r) (omega arith)) (refl {a = (view r).list})
     (refl {a = (view r).heard})
-    (one_entry r.gathered.items c.own-entry-own.result (omega (arith, as_many_marks))
-    ∙ ap (λ x. x ∷ []) c.own-entry-own.ensures)
-    (refl {a = (view r).owing}) in (
-      (
-        length-set _ _ _ ∙ r.room.0,
-        r.room.1,
-        length-set _ _ _ ∙ r.room.2,
-        r.room.3,
-        omega (arith, as_many_marks),
-      ),
-      kept (site r) (view r) _ (lead (site r) (view r)) (λ law. (own_calls (site r) (view r) law).lead)
-          (e ∙ sym (ap (after (view r)) q)) r.kept,
-    )
+    (one_entry r.gathered.items c.own_entry-own.result (omega (arith, as_many_marks))
+    ∙ ap (λ x. x ∷ []) c.own_entry-own.ensures)
+    (refl {a = (view r).owing}) in
+    kept (site r) (view r) _ (lead (site r) (view r)) (λ law. (own_calls (site r) (view r) law).lead)
+        (e ∙ sym (ap (after (view r)) q)) r.kept
 
 pub say-requires : goal.say-requires
 unfolding rows_of next
 say-requires c =
     let r = c.args.self.now in
     let q = leads (site r) (view r) (sym c.engaged.ensures ∙ c.if-engaged.false)
-    (sym c.is-empty.ensures ∙ c.if-not-is-empty.false) (λ e. omega arith) (omega arith) (λ e. omega arith) in
+    (sym c.is_empty.ensures ∙ c.if-not-is_empty.false) (λ e. omega arith) (omega arith) (λ e. omega arith) in
     let e = state_is r.shelf r.tray r.wish
     (row_set r.rows.of r.identity.depot (next r) (omega arith)) (refl {a = (view r).list})
     (refl {a = (view r).heard})
-    (one_entry r.gathered.items c.own-entry-own.result (omega (arith, as_many_marks))
-    ∙ ap (λ x. x ∷ []) c.own-entry-own.ensures)
+    (one_entry r.gathered.items c.own_entry-own.result (omega (arith, as_many_marks))
+    ∙ ap (λ x. x ∷ []) c.own_entry-own.ensures)
     (refl {a = (view r).owing}) in
     record {
       low = omega arith;
@@ -94,12 +91,12 @@ unfolding rows_of next
 returns c =
     let r = c.args.self.now in
     let q = leads (site r) (view r) (sym c.engaged.ensures ∙ c.if-engaged.false)
-    (sym c.is-empty.ensures ∙ c.if-not-is-empty.false) (λ e. omega arith) (omega arith) (λ e. omega arith) in
+    (sym c.is_empty.ensures ∙ c.if-not-is_empty.false) (λ e. omega arith) (omega arith) (λ e. omega arith) in
     let e = state_is r.shelf r.tray r.wish
     (row_set r.rows.of r.identity.depot (next r) (omega arith)) (refl {a = (view r).list})
     (refl {a = (view r).heard})
-    (one_entry r.gathered.items c.own-entry-own.result (omega (arith, as_many_marks))
-    ∙ ap (λ x. x ∷ []) c.own-entry-own.ensures)
+    (one_entry r.gathered.items c.own_entry-own.result (omega (arith, as_many_marks))
+    ∙ ap (λ x. x ∷ []) c.own_entry-own.ensures)
     (refl {a = (view r).owing}) in
     call_served q e refl
     (posted_as _ _ _ (mail_is kinds.Ask r.identity.depot [] (refl {a = site r}) e c.rest-to.ensures)

@@ -7,14 +7,14 @@ use Rattle.book.specs.View.{site, view}
 use Rattle.book.proofs.Listing.{list_depots}
 use Rattle.book.proofs.record.Record.others.Goals as goal
 
-pub names-of-requires : goal.names-of-requires
-names-of-requires c =
+pub names_of-requires : goal.names_of-requires
+names_of-requires c =
     let r = c.args.self.now in
-    subst (λ es. All (λ e. e.depot < max_depots) es) (sym c.as-slice.ensures.list)
+    subst (λ es. All (λ e. e.depot < max_depots) es) (sym c.as_slice.ensures.list)
     (list_depots (site r) (view r) c.args.leader c.requires r.kept)
 
 pub returns : goal.returns
 returns c =
     let r = c.args.self.now in
     c.without.ensures
-    ∙ ap (λ x. less x (mark r.identity.depot)) (c.names-of.ensures ∙ ap names c.as-slice.ensures.list)
+    ∙ ap (λ x. less x (mark r.identity.depot)) (c.names_of.ensures ∙ ap names c.as_slice.ensures.list)

@@ -21,21 +21,21 @@ pub returns-then-covered-from : goal.returns-then-covered-from
 unfolding propose pick
 returns-then-covered-from g c =
     let r = c.args.self.now in
-    let w = c.elsewhere-covered.ensures ∙ ap (elsewhere r.identity.depot) c.as-slice.ensures.list in
+    let w = c.elsewhere-covered.ensures ∙ ap (elsewhere r.identity.depot) c.as_slice.ensures.list in
     call_refused (grind (arith, nat_tests))
 
-pub propose-gathered-requires : goal.propose-gathered-requires
-propose-gathered-requires g c =
+pub propose_gathered-requires : goal.propose_gathered-requires
+propose_gathered-requires g c =
     let r = c.args.self.now in
-    let w = c.elsewhere-covered.ensures ∙ ap (elsewhere r.identity.depot) c.as-slice.ensures.list in
+    let w = c.elsewhere-covered.ensures ∙ ap (elsewhere r.identity.depot) c.as_slice.ensures.list in
     record { gathers = omega arith; covers = omega arith }
 
 pub returns : goal.returns
 returns g c =
     let r = c.args.self.now in
     let P = policy_of g.P.Policy.code g.P.Policy.share in
-    let w = c.elsewhere-covered.ensures ∙ ap (elsewhere r.identity.depot) c.as-slice.ensures.list in
+    let w = c.elsewhere-covered.ensures ∙ ap (elsewhere r.identity.depot) c.as_slice.ensures.list in
     let code : g.P.Policy.code ≡ r.identity.code = grind (arith, nat_tests) in
     let q = proposes P (site r) (view r) code (omega arith) (omega arith) in
-    call_served q c.propose-gathered.ensures.state c.propose-gathered.ensures.same
-    c.propose-gathered.ensures.posts
+    call_served q c.propose_gathered.ensures.state c.propose_gathered.ensures.same
+    c.propose_gathered.ensures.posts

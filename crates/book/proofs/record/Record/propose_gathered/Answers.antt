@@ -22,35 +22,38 @@ use Rattle.book.proofs.record.Record.propose_gathered.Goals as goal
 next : Record → parts.Row
 next r = record { number = (get_or r.rows.of r.identity.depot blank_row).number; standing = Accepted }
 
-pub names-of-requires : goal.names-of-requires
-names-of-requires c =
+pub names_of-requires : goal.names_of-requires
+names_of-requires c =
     let r = c.args.self.now in
-    subst (λ es. All (λ e. e.depot < max_depots) es) (sym c.as-slice.ensures.list)
+    subst (λ es. All (λ e. e.depot < max_depots) es) (sym c.as_slice.ensures.list)
     (gathered_depots (site r) (view r) c.requires.gathers r.kept)
 
-pub invariant-of-self : goal.invariant-of-self
-unfolding rows_of next
-invariant-of-self c =
+pub invariant_of-self-clause-room : goal.invariant_of-self-clause-room
+invariant_of-self-clause-room c =
     let r = c.args.self.now in
-    let d = r.identity.depot in
-    let q = proposes (under (site r)) (site r) (view r) refl c.requires.gathers c.requires.covers in
-    let to : c.without-to.result.0 ≡ others (site r) (view r).gathered =
-    c.without-to.ensures ∙ ap (λ x. less x (mark d)) (c.names-of.ensures ∙ ap names c.as-slice.ensures.list) in
-    let e = state_is r.shelf r.tray r.wish (row_set r.rows.of d (next r) (omega arith))
-    (refl {a = (view r).gathered}) c.mark-self.ensures refl to in (
-      (length-set _ _ _ ∙ r.room.0, r.room.2, r.room.2, r.room.4, omega arith),
-      kept (site r) (view r) _ (propose (under (site r)) (site r) (view r)) (under_kept (site r) (view r))
-          (e ∙ sym (ap (after (view r)) q)) r.kept,
-    )
+    (length-set _ _ _ ∙ r.room.0, r.room.2, r.room.2, r.room.4, omega arith)
 
-pub say-list-requires : goal.say-list-requires
+pub invariant_of-self-clause-kept : goal.invariant_of-self-clause-kept
 unfolding rows_of next
-say-list-requires c =
+invariant_of-self-clause-kept c =
     let r = c.args.self.now in
     let d = r.identity.depot in
     let q = proposes (under (site r)) (site r) (view r) refl c.requires.gathers c.requires.covers in
     let to : c.without-to.result.0 ≡ others (site r) (view r).gathered =
-    c.without-to.ensures ∙ ap (λ x. less x (mark d)) (c.names-of.ensures ∙ ap names c.as-slice.ensures.list) in
+    c.without-to.ensures ∙ ap (λ x. less x (mark d)) (c.names_of.ensures ∙ ap names c.as_slice.ensures.list) in
+    let e = state_is r.shelf r.tray r.wish (row_set r.rows.of d (next r) (omega arith))
+    (refl {a = (view r).gathered}) c.mark-self.ensures refl to in
+    kept (site r) (view r) _ (propose (under (site r)) (site r) (view r)) (under_kept (site r) (view r))
+        (e ∙ sym (ap (after (view r)) q)) r.kept
+
+pub say_list-requires : goal.say_list-requires
+unfolding rows_of next
+say_list-requires c =
+    let r = c.args.self.now in
+    let d = r.identity.depot in
+    let q = proposes (under (site r)) (site r) (view r) refl c.requires.gathers c.requires.covers in
+    let to : c.without-to.result.0 ≡ others (site r) (view r).gathered =
+    c.without-to.ensures ∙ ap (λ x. less x (mark d)) (c.names_of.ensures ∙ ap names c.as_slice.ensures.list) in
     let e = state_is r.shelf r.tray r.wish (row_set r.rows.of d (next r) (omega arith))
     (refl {a = (view r).gathered}) c.mark-self.ensures refl to in
     record {
@@ -65,11 +68,11 @@ returns c =
     let r = c.args.self.now in
     let d = r.identity.depot in
     let to : c.without-to.result.0 ≡ others (site r) (view r).gathered =
-    c.without-to.ensures ∙ ap (λ x. less x (mark d)) (c.names-of.ensures ∙ ap names c.as-slice.ensures.list) in
+    c.without-to.ensures ∙ ap (λ x. less x (mark d)) (c.names_of.ensures ∙ ap names c.as_slice.ensures.list) in
     let e = state_is r.shelf r.tray r.wish (row_set r.rows.of d (next r) (omega arith))
     (refl {a = (view r).gathered}) c.mark-self.ensures refl to in
     record {
-      posts = posted_as _ _ _ (mail_is kinds.List d (view r).gathered (refl {a = site r}) e to) c.say-list.ensures;
+      posts = posted_as _ _ _ (mail_is kinds.List d (view r).gathered (refl {a = site r}) e to) c.say_list.ensures;
       state = e;
       same = refl;
     }

@@ -14,17 +14,15 @@ returns-then-stands-eq1 c =
     let r = c.args.self.now in
     left_served r _ (restart_gathering (site r) (view r) (omega arith)) c.end.ensures.state c.end.ensures.same
 
-pub invariant-of-self : goal.invariant-of-self
-invariant-of-self c =
+pub invariant_of-self-clause-kept : goal.invariant_of-self-clause-kept
+invariant_of-self-clause-kept c =
     let r = c.args.self.now in
     let l = c.leader-leader.result in
     let q = restart_bound (site r) (view r) l c.leader-leader.ensures.value (λ e. omega arith) (omega arith) in
     let h : c.with-self.result.0 ≡ pair (site r) l =
-    c.with-self.ensures ∙ ap (λ m. add m l) c.mark.ensures in (
-      r.room,
-      kept (site r) (view r) _ (restart (site r) (view r)) (λ law. (own_calls (site r) (view r) law).restart)
-          (ap (λ x. hears x (view r)) h ∙ sym (ap (after (view r)) q)) r.kept,
-    )
+    c.with-self.ensures ∙ ap (λ m. add m l) c.mark.ensures in
+    kept (site r) (view r) _ (restart (site r) (view r)) (λ law. (own_calls (site r) (view r) law).restart)
+        (ap (λ x. hears x (view r)) h ∙ sym (ap (after (view r)) q)) r.kept
 
 pub returns-then-stands-eq2 : goal.returns-then-stands-eq2
 returns-then-stands-eq2 c =

@@ -4,9 +4,9 @@ use Rattle.std.proofs.lemmas.Bool.Decides.{nat_tests}
 use Rattle.book.specs.Fields.{rows_of, row_of, blank_row}
 use Rattle.book.proofs.record.Record.row.Goals as goal
 
-pub returns-then-not-is-depot : goal.returns-then-not-is-depot
+pub returns-then-not-is_depot : goal.returns-then-not-is_depot
 unfolding rows_of
-returns-then-not-is-depot c =
+returns-then-not-is_depot c =
     let r = c.args.self.now in
     let past : length r.rows.of ≤ c.args.leader = grind (arith, nat_tests) in
     sym (ap row_of (get_or_past r.rows.of c.args.leader blank_row past))

@@ -8,24 +8,24 @@ use Rattle.book.specs.View.{site, view}
 use Rattle.book.proofs.Mailing.{posted_none, posted_some, note_lawful}
 use Rattle.book.proofs.record.Record.say.Goals as goal
 
-pub returns-then-is-empty : goal.returns-then-is-empty
-returns-then-is-empty c =
+pub returns-then-is_empty : goal.returns-then-is_empty
+returns-then-is_empty c =
     let r = c.args.self.now in
     posted_none (site r) (view r) c.args.kind c.args.to c.args.leader [] _
-    (eqb-true _ 0 (sym c.is-empty.ensures ∙ c.if-is-empty.true))
+    (eqb-true _ 0 (sym c.is_empty.ensures ∙ c.if-is_empty.true))
 
-pub set-plain-requires : goal.set-plain-requires
-set-plain-requires c =
+pub set_plain-requires : goal.set_plain-requires
+set_plain-requires c =
     let r = c.args.self.now in
     let k = c.args.kind in
     subst (λ h. Lawful (says (kind_number k) h [])) (sym c.head.ensures)
     (note_lawful (site r) (view r) k c.args.to c.args.leader []
-    (eqb-false _ 0 (sym c.is-empty.ensures ∙ c.if-is-empty.false)) c.requires.fine)
+    (eqb-false _ 0 (sym c.is_empty.ensures ∙ c.if-is_empty.false)) c.requires.fine)
 
 pub returns : goal.returns
 returns c =
     let r = c.args.self.now in
     let k = c.args.kind in
     posted_some (site r) (view r) k c.args.to c.args.leader [] _ _
-    (eqb-false _ 0 (sym c.is-empty.ensures ∙ c.if-is-empty.false))
-    (c.set-plain.ensures ∙ ap (λ h. says (kind_number k) h []) c.head.ensures)
+    (eqb-false _ 0 (sym c.is_empty.ensures ∙ c.if-is_empty.false))
+    (c.set_plain.ensures ∙ ap (λ h. says (kind_number k) h []) c.head.ensures)

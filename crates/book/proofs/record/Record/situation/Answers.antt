@@ -18,8 +18,8 @@ unfolding told
 returns c =
     let r = c.args.self.now in
     let h = c.args.head in
-    let l = c.as-slice-list.ensures.list in
-    same_told _ _ (c.on-list.ensures ∙ ap (λ es. on es h.sender) c.as-slice.ensures.list)
-    (c.can-accept.ensures h.sender h.number
+    let l = c.as_slice-list.ensures.list in
+    same_told _ _ (c.on_list.ensures ∙ ap (λ es. on es h.sender) c.as_slice.ensures.list)
+    (c.can_accept.ensures h.sender h.number
     ∙ ap (acceptable_list (site r) (view r) h.leader h.sender h.number) l)
-    (c.can-gather.ensures ∙ ap (fits_gathered (view r).gathered) l)
+    (c.can_gather.ensures ∙ ap (fits_gathered (view r).gathered) l)

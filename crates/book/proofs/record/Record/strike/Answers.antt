@@ -6,14 +6,12 @@ use Rattle.book.specs.View.{site, view}
 use Rattle.book.proofs.Kept.{lawful_now}
 use Rattle.book.proofs.record.Record.strike.Goals as goal
 
-pub invariant-of-self : goal.invariant-of-self
-invariant-of-self c =
-    let r = c.args.self.now in (
-      r.room,
-      lawful_now (site r) (view r) _ (owed (less r.owing.0 (mark c.args.sender)) (view r))
-          (λ law. owed_law (site r) (view r) true c.args.sender law)
-          (ap (λ x. owed x (view r)) c.without-self.ensures) r.kept,
-    )
+pub invariant_of-self-clause-kept : goal.invariant_of-self-clause-kept
+invariant_of-self-clause-kept c =
+    let r = c.args.self.now in
+    lawful_now (site r) (view r) _ (owed (less r.owing.0 (mark c.args.sender)) (view r))
+        (λ law. owed_law (site r) (view r) true c.args.sender law)
+        (ap (λ x. owed x (view r)) c.without-self.ensures) r.kept
 
 pub returns-then-strikes : goal.returns-then-strikes
 unfolding pick

@@ -6,6 +6,6 @@ pub returns-in-Ask : goal.returns-in-Ask
 unfolding asks
 returns-in-Ask c = search rules
 
-pub returns-in-default : goal.returns-in-default
+pub returns-in_default : goal.returns-in_default
 unfolding asks
-returns-in-default c = search rules
+returns-in_default c = search rules

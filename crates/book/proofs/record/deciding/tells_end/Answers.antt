@@ -6,6 +6,6 @@ pub returns-in-No : goal.returns-in-No
 unfolding tells_end
 returns-in-No c = search rules
 
-pub returns-in-default : goal.returns-in-default
+pub returns-in_default : goal.returns-in_default
 unfolding tells_end
-returns-in-default c = search rules
+returns-in_default c = search rules

@@ -15,12 +15,12 @@ loop-i-init c =
 pub loop-i-preserved : goal.loop-i-preserved
 loop-i-preserved c =
     let e = elsewhere_more c.args.depot c.args.list.now c.loop-i.i blank (omega arith) (omega arith) in
-    let b = c.shelf-elsewhere-shelf.type-inv in
-    let f = c.shelf-elsewhere-shelf.ensures in
+    let b = c.shelf_elsewhere-shelf.type_inv in
+    let f = c.shelf_elsewhere-shelf.ensures in
     (omega arith, omega arith)
 
-pub overflow-add-sum : goal.overflow-add-sum
-overflow-add-sum c = let b = c.shelf-elsewhere-shelf.type-inv in omega (arith, as_many_marks)
+pub overflow_add-sum : goal.overflow_add-sum
+overflow_add-sum c = let b = c.shelf_elsewhere-shelf.type_inv in omega (arith, as_many_marks)
 
 pub returns : goal.returns
 returns c =
