@@ -1,12 +1,11 @@
 -- Putting an entry into a fixed place: writing it behind the others and moving those above it up by one is what
 -- `insert` does to the list.
-use Rattle.std.proofs.Common.{◌≡◌, ℕ, zero, suc, ◌+◌, ◌-◌, ◌<◌, ◌≤◌, min, Bool, true, false, cond, not, ltb, List, [], ◌∷◌, ◌++◌, length, take, drop, set, sym, refl, ap, ◌∙◌, ⊎_elim, one-add, arith}
+use Rattle.std.proofs.Common.{◌≡◌, ℕ, ◌+◌, ◌-◌, ◌<◌, ◌≤◌, min, Bool, true, false, cond, not, ltb, List, [], ◌∷◌, ◌++◌, length, take, drop, set, sym, refl, ap, ◌∙◌, ⊎_elim, one-add, arith}
 use borrow.Rule.Slice.PartMut.{put_mid}
 use Rattle.std.specs.List.{between, insert as inserted, prefix_len}
-use Rattle.std.proofs.lemmas.List.{append_assoc, length-take, length-append, length-drop, length-take-le, take_all, take-take, take_at, drop_at, take-set-le, take_more_set, drop-append-le, drop-drop, drop-set-lt}
+use Rattle.std.proofs.lemmas.List.{append_assoc, length-append, length-take-le, take_all, take-take, take_at, drop_at, take-set-le, take_more_set, drop-append-le, drop-drop, drop-set-lt}
 use Rattle.std.proofs.lemmas.Slice.{between_is}
-use Rattle.std.proofs.lemmas.List.Sums.{prefix_len-le-length}
-use Rattle.std.proofs.lemmas.Bool.{cases_lt, cases_Bool}
+use Rattle.std.proofs.lemmas.Bool.{cases_lt}
 use Rattle.entries.specs.declared.lists.Entry.{Entry}
 use Rattle.entries.specs.Lists.{insert}
 

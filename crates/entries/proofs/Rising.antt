@@ -1,11 +1,11 @@
 -- Lists whose depots rise: read entry by entry they are orderly, and below n they have at most n entries, so that a
 -- list begun needs only a second entry to be a list.
-use Rattle.std.proofs.Common.{◌≡◌, ℕ, suc, ◌+◌, ◌<◌, ◌≤◌, List, [], ◌∷◌, length, get_or, drop, sym, refl, ap, ◌∙◌, subst, arith}
+use Rattle.std.proofs.Common.{ℕ, ◌+◌, ◌<◌, ◌≤◌, List, [], ◌∷◌, length, get_or, drop, sym, subst, arith}
 use Rattle.std.specs.List.{AllByRecursion as All}
 use Rattle.std.proofs.lemmas.List.{drop_more, drop_all}
 use Rattle.entries.specs.declared.lists.Entry.{Entry}
 use Rattle.entries.specs.Limits.{max_depots, max_wish, max_pool}
-use Rattle.entries.specs.Lists.{pool, RisesFrom, Rises, Listed, MayFollow, Orderly, Begun, blank}
+use Rattle.entries.specs.Lists.{pool, RisesFrom, Listed, MayFollow, Orderly, Begun, blank}
 
 pub orderly_rises : (d : ℕ) (es : List Entry) → Orderly d es → RisesFrom d es
 orderly_rises d [] ok = tt

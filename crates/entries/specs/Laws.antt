@@ -1,5 +1,5 @@
 -- A set of depots is its membership: what each operation on sets does, said of one depot at a time.
-use Rattle.std.specs.Prelude.{◌≡◌, ℕ, ◌^◌, ◌<◌, Bool, true, false, not, ◌&&◌, ◌||◌, List, Decides, ◌==◌, nat_lt}
+use Rattle.std.specs.Prelude.{◌≡◌, ℕ, ◌^◌, ◌<◌, true, false, not, ◌&&◌, ◌||◌, List, Decides, ◌==◌, nat_lt}
 use Rattle.entries.specs.declared.lists.Entry.{Entry}
 use Rattle.entries.specs.Sets.{has, mark, union, add, less, everyone, covers}
 use Rattle.entries.specs.Lists.{on, names}

@@ -1,5 +1,5 @@
 -- Lists of entries, each with a depot, its shelf and its wish.
-use Rattle.std.specs.Prelude.{ℕ, ◌+◌, ◌<◌, ◌≤◌, Bool, true, false, cond, ◌||◌, List, [], ◌∷◌, length, take, sum_by, ◌==◌, nat_lt}
+use Rattle.std.specs.Prelude.{ℕ, ◌+◌, ◌<◌, ◌≤◌, Bool, false, cond, ◌||◌, List, [], ◌∷◌, length, take, sum_by, ◌==◌, nat_lt}
 use Rattle.std.specs.List.{AllByRecursion as All}
 use Rattle.entries.specs.declared.lists.Entry.{Entry}
 use Rattle.entries.specs.declared.lists.Entries.{Entries}

@@ -1,6 +1,6 @@
 -- What lawful lamps give: each of them is lawful, and the forecast over them stays far below 2 to the power 32, since a
 -- lamp needs at most its hours and the period together.
-use Rattle.std.proofs.Common.{◌≡◌, ℕ, ◌+◌, ◌*◌, ◌<◌, ◌≤◌, Bool, true, false, cond, ◌&&◌, List, [], ◌∷◌, length, get_or, drop, Some, None, refl, ◌∙◌, ⊎_elim, div-le_self, arith}
+use Rattle.std.proofs.Common.{◌≡◌, ℕ, ◌+◌, ◌<◌, ◌≤◌, true, false, List, [], ◌∷◌, length, get_or, drop, Some, None, refl, ◌∙◌, ⊎_elim, div-le_self, arith}
 use Rattle.std.specs.List.{AllByRecursion as All}
 use Rattle.std.proofs.ByRecursion.{All-get_or, All-weaker, sum_by_le}
 use Rattle.std.proofs.lemmas.List.{at_drop_more}

@@ -1,5 +1,5 @@
 -- The whole job: from the bytes of a sheet to the text of the answer, or to why there is none.
-use Rattle.std.specs.Prelude.{◌≡◌, ℕ, ◌+◌, cond, List, ◌++◌, Ok, Err, vec_items, string_bytes, codes, decimal, Result, String, ◌==◌}
+use Rattle.std.specs.Prelude.{◌≡◌, ℕ, cond, List, ◌++◌, Ok, Err, vec_items, string_bytes, codes, decimal, Result, String, ◌==◌}
 use Rattle.std.specs.declared.alloc.Global.{Global}
 use Rattle.forecast.specs.Checking.{checked, taken, verdict_of}
 use Rattle.forecast.specs.declared.lamp.Refusal.{Refusal}

@@ -1,5 +1,5 @@
 -- What reading a sheet answers.
-use Rattle.std.specs.Prelude.{◌≡◌, ℕ, ◌+◌, ◌<◌, List, ◌++◌, length, Some, None, Ok, Err, Option, Result}
+use Rattle.std.specs.Prelude.{◌≡◌, ℕ, ◌+◌, List, ◌++◌, length, Some, None, Ok, Err, Option, Result}
 use Rattle.std.specs.List.{AllByRecursion as All}
 use Rattle.text_lines.specs.declared.Reader.{Reader}
 use Rattle.text_lines.specs.Reading.{left}

@@ -1,6 +1,6 @@
 -- What reading answers, at each of its exits: the tests before the exit passed, so the first that fails is the one that
 -- the exit tells.
-use Rattle.std.proofs.Common.{◌≡◌, ℕ, ◌+◌, ◌-◌, ◌/◌, ◌≤◌, List, ◌++◌, length, take, drop, IfOk, Some, None, Ok, Err, Option, Result, sym}
+use Rattle.std.proofs.Common.{◌≡◌, ℕ, ◌-◌, ◌/◌, ◌≤◌, List, ◌++◌, length, take, drop, IfOk, Some, None, Ok, Err, Option, Result, sym}
 use Rattle.std.proofs.lemmas.Bool.{le-leb, eq-eqb}
 use Rattle.std.proofs.lemmas.List.{take_rest}
 use Rattle.letters.specs.declared.fault.Unread.{Unread}

@@ -1,11 +1,10 @@
 -- Dealing pieces out: k shares, which together are all the pieces, since the quotient k times and the remainder are.
-use Rattle.std.specs.Prelude.{◌≡◌, ℕ, zero, suc, ◌+◌, ◌-◌, ◌*◌, ◌/◌, ◌%◌, ◌<◌, ◌≤◌, cond, List, [], ◌∷◌, length, sum, nat_lt, slice_index, refl}
+use Rattle.std.specs.Prelude.{◌≡◌, ℕ, zero, suc, ◌+◌, ◌-◌, ◌*◌, ◌/◌, ◌%◌, ◌<◌, ◌≤◌, cond, length, sum, nat_lt, slice_index, refl}
 use Rattle.std.proofs.Common.{ap, ◌∙◌, suc-mul, zero-mul, mod-lt, arith}
 use Rattle.std.proofs.Math.Nat.{div-add-mod}
 use Rattle.std.proofs.lemmas.List.Sums.{sum_by-cons}
 use Rattle.std.proofs.lemmas.Bool.Decides.{nat_tests}
-use Rattle.entries.specs.declared.lists.Entry.{Entry}
-use Rattle.entries.specs.Lists.{pool, Listed}
+use Rattle.entries.specs.Lists.{pool}
 use Rattle.policies.specs.Policy.{OneEach, Conserving, Lawful}
 use Rattle.policies.specs.Shares.{evenly, dealt_out, level}
 

@@ -1,7 +1,7 @@
 -- Every call keeps a record's law, and what it sends is a lawful letter: by going through its refusals, and for Receive
 -- through the lines of each kind.
-use Rattle.std.proofs.Common.{◌≡◌, ℕ, ◌+◌, ◌-◌, ◌<◌, ◌≤◌, Bool, true, false, not, ◌&&◌, ◌||◌, eqb, ltb, leb, ◌≢◌, List, [], ◌∷◌, sym, refl, ◌∙◌, subst, inl, inr, arith}
-use mathlib.Core.Option.{Option, none, some}
+use Rattle.std.proofs.Common.{◌≡◌, ℕ, ◌+◌, ◌-◌, ◌<◌, ◌≤◌, Bool, true, false, not, ◌&&◌, ◌||◌, eqb, ltb, leb, List, [], ◌∷◌, sym, refl, ◌∙◌, subst, inl, inr, arith}
+use mathlib.Core.Option.{none}
 use Rattle.std.proofs.lemmas.Bool.{eqb-true, eqb-false, ltb-false, leb-true, leb-false, and_parts, or_parts, not-true, not-false, false≢true}
 use Rattle.entries.specs.declared.lists.Entry.{Entry}
 use Rattle.entries.specs.Limits.{max_depots}
@@ -26,7 +26,7 @@ use Rattle.protocol.specs.Outcome.{Outcome, refuses, serves}
 use Rattle.protocol.specs.Own.{issue, give_back, set_wish, led, lead, proposed, propose, withdraw_in, query_in, restart_in}
 use Rattle.protocol.specs.Own.{remind}
 use Rattle.protocol.specs.Policy.{Policy, LawfulPolicy}
-use Rattle.protocol.specs.State.{pick, Site, State, fresh, engaged, leader, own, rest, others, pair, owed, gathers}
+use Rattle.protocol.specs.State.{pick, Site, State, fresh, engaged, rest, others, pair, owed, gathers}
 use Rattle.protocol.specs.State.{ended}
 use Rattle.protocol.specs.Steps.{fits_gathered, gathered_with, acceptable_list, situation, to_whom, concluded, carried}
 use Rattle.protocol.specs.Taking.{kind_of, asks, strikes, struck, newer, step_for, take}

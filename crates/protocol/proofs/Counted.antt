@@ -1,7 +1,7 @@
 -- How often a depot has accepted, settled and dropped, by the calls of a series, is what its last standing says: a row
 -- moves to such a standing once, and never from it.
-use Rattle.std.proofs.Common.{◌≡◌, ℕ, ◌+◌, ◌-◌, ◌<◌, ◌≤◌, Bool, true, false, cond, ◌&&◌, ◌||◌, eqb, ◌⊎◌, List, [], ◌∷◌, sym, refl, ap, ◌∙◌, subst, ap₂, inl, inr, arith}
-use mathlib.Core.Option.{Option, none, some}
+use Rattle.std.proofs.Common.{◌≡◌, ℕ, ◌+◌, ◌<◌, ◌≤◌, Bool, true, false, cond, ◌&&◌, ◌||◌, eqb, ◌⊎◌, List, [], ◌∷◌, sym, refl, ap, ◌∙◌, subst, ap₂, inl, inr, arith}
+use mathlib.Core.Option.{Option}
 use Rattle.std.proofs.lemmas.Bool.Decides.{nat_tests}
 use Rattle.std.proofs.lemmas.Bool.{eqb-true, eq-eqb, ne_eqb, and_parts, or_cases, cases_eq, cases_Bool, cond-true, cond-false}
 use Rattle.entries.specs.declared.lists.Entry.{Entry}
@@ -9,7 +9,7 @@ use Rattle.letters.specs.Contents.{Contents}
 use Rattle.protocol.specs.Calls.{once, accepts, ends_at}
 use Rattle.protocol.specs.Law.{HasAccepted, Engages}
 use Rattle.protocol.specs.Policy.{Policy}
-use Rattle.protocol.specs.State.{upd, pick, State, engages, own}
+use Rattle.protocol.specs.State.{upd, pick, State, engages}
 use Rattle.protocol.proofs.Tests.{upd_tells, by}
 use Rattle.protocol.proofs.History.{History, next}
 use Rattle.protocol.proofs.History.{standing, number, Effect, StandingMove, RowMove, Safe}

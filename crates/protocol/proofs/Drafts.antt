@@ -1,6 +1,6 @@
 -- Every draft opens with shares that add up to its total: what is allotted never passes the total, a depot that was not
 -- allotted has nothing, and what remains goes to depot 0.
-use Rattle.std.proofs.Common.{◌≡◌, ℕ, ◌+◌, ◌-◌, ◌<◌, ◌≤◌, false, ltb, Ok, Err, Result, sym, refl, ◌∙◌, subst, inl, inr, arith}
+use Rattle.std.proofs.Common.{◌≡◌, ℕ, ◌+◌, ◌<◌, ◌≤◌, false, ltb, Ok, Err, Result, sym, refl, ◌∙◌, subst, inl, inr, arith}
 use Rattle.std.proofs.lemmas.Bool.{ltb-true, ltb-false, or_parts, not-false, both_ways}
 use Rattle.entries.specs.Limits.{max_depots}
 use Rattle.entries.specs.Sets.{has}

@@ -1,7 +1,7 @@
 -- Every call is one of the effects, with what that effect relies on, and what its letter vouches for is so: by going
 -- through the refusals of each call, and for Receive through the lines of each kind.
-use Rattle.std.proofs.Common.{◌≡◌, ℕ, ◌-◌, ◌<◌, ◌≤◌, Bool, true, false, not, ◌&&◌, ◌||◌, eqb, ltb, leb, ◌≢◌, ◌⊎◌, List, [], ◌∷◌, sym, refl, ap, ◌∙◌, subst, inl, inr, arith}
-use mathlib.Core.Option.{Option, none, some}
+use Rattle.std.proofs.Common.{◌≡◌, ℕ, ◌<◌, ◌≤◌, Bool, true, false, not, ◌&&◌, ◌||◌, eqb, ltb, leb, ◌⊎◌, List, [], ◌∷◌, sym, refl, ap, ◌∙◌, subst, inl, inr, arith}
+use mathlib.Core.Option.{none}
 use Rattle.std.proofs.lemmas.Bool.{eqb-true, ltb-true, ltb-false, leb-false, and_parts, or_parts, not-false, both_ways, false≢true}
 use Rattle.entries.specs.declared.lists.Entry.{Entry}
 use Rattle.entries.specs.Sets.{has, mark, add}
@@ -24,7 +24,7 @@ use Rattle.protocol.specs.Outcome.{Outcome, refuses, serves, mail, after, sends,
 use Rattle.protocol.specs.Own.{issue, give_back, set_wish, led, lead, proposed, propose, withdraw_in, query_in, restart_in}
 use Rattle.protocol.specs.Own.{remind}
 use Rattle.protocol.specs.Policy.{Policy}
-use Rattle.protocol.specs.State.{upd, Site, State, engaged, leader, pair, owed, gathers, turned, bound, ended, settled}
+use Rattle.protocol.specs.State.{upd, Site, State, engaged, pair, owed, gathers, turned, bound, ended, settled}
 use Rattle.protocol.specs.Steps.{gathered_with, acceptable_list, situation, concluded, carried}
 use Rattle.protocol.specs.Taking.{kind_of, tells_end, asks, strikes, struck, newer, step_for, take}
 use Rattle.protocol.proofs.InSets.{mark_tells, add_tells}

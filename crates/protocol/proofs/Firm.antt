@@ -1,7 +1,6 @@
 -- What is due to a depot by the last standings, told as two cases: bound to a list that every depot on it has accepted,
 -- and not.
-use Rattle.std.proofs.Common.{◌≡◌, ℕ, ◌+◌, ◌-◌, ◌<◌, ◌≤◌, Bool, true, false, cond, ◌&&◌, eqb, List, sym, ap, ◌∙◌, inl, inr, arith}
-use mathlib.Core.Option.{Option, none, some}
+use Rattle.std.proofs.Common.{◌≡◌, ℕ, ◌+◌, ◌<◌, ◌≤◌, Bool, true, false, cond, ◌&&◌, eqb, List, sym, ap, ◌∙◌, inl, inr, arith}
 use Rattle.std.proofs.lemmas.Bool.{cond-true, cond-false, cases_Bool, eqb-true, eq-eqb, and_parts, and_from, both_ways}
 use Rattle.entries.specs.declared.lists.Entry.{Entry}
 use Rattle.entries.specs.Lists.{on}
@@ -13,7 +12,6 @@ use Rattle.policies.specs.Shares.{share_of}
 use Rattle.protocol.proofs.Tests.{every_one, all_every, any_one, one_any}
 use Rattle.protocol.proofs.History.{has_accepted, acc_true, true_acc}
 use Rattle.protocol.proofs.History.{History}
-use Rattle.protocol.proofs.History.{standing, number}
 use Rattle.protocol.proofs.SafeNext.{low}
 
 -- bound to a list that stands

@@ -1,7 +1,6 @@
 -- What stays so, call after call: a standing only moves on, a list once accepted stays its handover's list. So what
 -- depots have agreed on they agree on for good.
-use Rattle.std.proofs.Common.{◌≡◌, ℕ, ◌-◌, ◌⊎◌, sym, refl, ap, ◌∙◌, subst, inl, inr, arith}
-use mathlib.Core.Option.{Option, none, some}
+use Rattle.std.proofs.Common.{◌≡◌, ℕ, ◌⊎◌, sym, refl, ap, ◌∙◌, subst, inl, inr, arith}
 use Rattle.protocol.specs.Calls.{Call, Hand, list_carried}
 use Rattle.protocol.specs.Law.{HasAccepted}
 use Rattle.protocol.specs.Opening.{Opening, LawfulOpening}

@@ -1,6 +1,6 @@
 -- A Query that all have answered frees its sender, for good: each answer ended the handover there or was heard, a bound
 -- depot never has all heard, and a row never comes back to a handover.
-use Rattle.std.proofs.Common.{◌≡◌, ℕ, ◌-◌, ◌<◌, ◌≤◌, true, false, ◌≢◌, List, [], sym, refl, ap, ◌∙◌, subst, ap₂, subst₂, inl, inr, arith}
+use Rattle.std.proofs.Common.{◌≡◌, ℕ, ◌<◌, ◌≤◌, true, false, List, [], sym, refl, ap, ◌∙◌, subst, ap₂, subst₂, inl, inr, arith}
 use mathlib.Core.Option.{Option, none, some}
 use Rattle.std.proofs.lemmas.Bool.{cases_eq, eqb-true, both_ways, not-false}
 use Rattle.entries.specs.declared.lists.Entry.{Entry}

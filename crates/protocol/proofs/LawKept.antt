@@ -1,16 +1,14 @@
 -- The law of a record over every call, reading included, and of the record that Hand fills.
-use Rattle.std.proofs.Common.{◌≡◌, ℕ, ◌-◌, ◌≤◌, true, List, refl, inl, arith}
-use mathlib.Core.Option.{Option, none, some}
+use Rattle.std.proofs.Common.{◌≡◌, ℕ, ◌≤◌, true, List, refl, inl, arith}
 use Rattle.std.proofs.lemmas.Bool.Decides.{nat_tests}
 use Rattle.entries.specs.Limits.{max_shelf}
 use Rattle.letters.specs.Bytes.{Bytes}
 use Rattle.letters.specs.Reading.{Answer, refused, letter, reads}
 use Rattle.protocol.specs.Keeping.{Keeps, CallsKeep, LawKept}
 use Rattle.protocol.specs.Law.{Engages, LawfulSite, Law}
-use Rattle.protocol.specs.Own.{issue, give_back, set_wish, lead, propose, remind}
 use Rattle.protocol.specs.Policy.{Policy, LawfulPolicy}
-use Rattle.protocol.specs.State.{found, Site, State, fresh, engages, leader, bound}
-use Rattle.protocol.specs.Taking.{take, taken, receive}
+use Rattle.protocol.specs.State.{Site, State, fresh, engages, leader}
+use Rattle.protocol.specs.Taking.{taken}
 use Rattle.letters.proofs.Forth.{no_other}
 use Rattle.protocol.proofs.InSets.{has_none}
 use Rattle.protocol.proofs.Tests.{found_one}

@@ -1,6 +1,6 @@
 -- What a record's law and a lawful letter say of the lists in them: of an entry gathered, of a list with another depot
 -- on it, and of what a letter of each kind carries.
-use Rattle.std.proofs.Common.{◌≡◌, ℕ, ◌-◌, ◌<◌, ◌≤◌, true, false, cond, eqb, ltb, List, [], ◌∷◌, length, refl, ap, inl, inr, arith}
+use Rattle.std.proofs.Common.{◌≡◌, ℕ, ◌<◌, ◌≤◌, true, false, cond, eqb, ltb, List, [], ◌∷◌, length, refl, ap, inl, inr, arith}
 use Rattle.std.specs.List.{AllByRecursion as All}
 use Rattle.std.proofs.lemmas.Bool.{eqb-true, ltb-true, and_parts, and_from, or_cases, cases_Bool, both_ways, eq-eqb, false≢true, cond-true, cond_both, or_left, or_right, cond-false, ne_eqb}
 use Rattle.entries.specs.declared.lists.Entry.{Entry}

@@ -1,6 +1,5 @@
 -- Every letter that a lawful record sends is one that reading accepts: its values are those that the law bounds.
 use Rattle.std.proofs.Common.{ℕ, ◌≤◌, List, [], ◌∷◌, refl, arith}
-use mathlib.Core.Option.{Option, none, some}
 use Rattle.entries.specs.declared.lists.Entry.{Entry}
 use Rattle.letters.specs.declared.letter.Kind.{Kind}
 use Rattle.letters.specs.declared.letter.Kind.TheVariants as kinds

@@ -1,6 +1,6 @@
 -- While a depot is bound, every other depot on its list answers its Query, and the answer ends the handover or is
 -- heard: the leader has not gone on, so all rows of that leader have the number of the handover.
-use Rattle.std.proofs.Common.{◌≡◌, ℕ, ◌-◌, ◌<◌, ◌≤◌, Bool, true, false, not, ◌&&◌, eqb, ◌≢◌, List, [], sym, refl, ap, ◌∙◌, subst, inl, inr, arith}
+use Rattle.std.proofs.Common.{◌≡◌, ℕ, ◌<◌, ◌≤◌, Bool, true, false, not, ◌&&◌, eqb, List, [], sym, refl, ap, ◌∙◌, subst, inl, inr, arith}
 use mathlib.Core.Option.{Option, none, some}
 use Rattle.std.proofs.lemmas.Bool.Decides.{nat_tests}
 use Rattle.std.proofs.lemmas.Bool.{eqb-true, eq-eqb, ne_eqb, le-ltb, lt-leb, and_from, and_left, or_from, not_from_true, both_ways, cases_eq, cases_lt}
@@ -16,9 +16,8 @@ use Rattle.protocol.specs.declared.step.Situation.{Situation}
 use Rattle.protocol.specs.Law.{HasAccepted, Engages}
 use Rattle.protocol.specs.Lines.{decided}
 use Rattle.protocol.specs.Outcome.{Outcome, note, mail, after, sends}
-use Rattle.protocol.specs.Own.{led, lead}
 use Rattle.protocol.specs.Policy.{Policy}
-use Rattle.protocol.specs.State.{upd, Site, State, leader, own, owed, ended}
+use Rattle.protocol.specs.State.{upd, Site, State, owed, ended}
 use Rattle.protocol.specs.Steps.{situation, concluded, carried}
 use Rattle.protocol.specs.Taking.{kind_of, strikes, struck, newer, step_for, take}
 use Rattle.protocol.proofs.InSets.{has_none, add_tells, mark_self, add_keeps}

@@ -1,5 +1,5 @@
 -- What a reader has left, and single bytes: the blank between two words, and the end of a line.
-use Rattle.std.specs.Prelude.{ℕ, Bool, true, false, cond, List, [], ◌∷◌, ◌==◌}
+use Rattle.std.specs.Prelude.{ℕ, Bool, false, cond, List, [], ◌∷◌, ◌==◌}
 use Rattle.text_lines.specs.declared.Reader.{Reader}
 
 -- the bytes that a reader has left to read

@@ -1,6 +1,6 @@
 -- The worked examples of the book: what policies share out, a handover of ten pieces, a refused issue, two letters byte
 -- for byte, and what a lamp needs.
-use Rattle.std.specs.Prelude.{◌≡◌, List, [], ◌∷◌, ℕ}
+use Rattle.std.specs.Prelude.{◌≡◌, List, [], ◌∷◌}
 use Rattle.entries.specs.declared.lists.Entry.{Entry}
 use Rattle.forecast.specs.declared.lamp.Lamp.{Lamp}
 use Rattle.forecast.specs.Hours.{lamp_need}

@@ -1,5 +1,4 @@
 use Rattle.std.proofs.Common.{sym, ◌∙◌}
-use Rattle.entries.specs.Lists.{blank}
 use Rattle.entries.proofs.Lookup.{on_here, entry_here, on_passed, entry_passed, on_end, found, missing}
 use Rattle.entries.proofs.lists.entry_of.Goals as goal
 

@@ -1,7 +1,5 @@
-use Rattle.std.proofs.Common.{◌≡◌, List, drop, sym, refl, subst, arith}
+use Rattle.std.proofs.Common.{refl, arith}
 use Rattle.std.proofs.lemmas.Bool.{false≢true}
-use Rattle.std.proofs.lemmas.List.{at_drop_all}
-use Rattle.entries.specs.Lists.{Orderly}
 use Rattle.entries.proofs.Width.{fits_byte}
 use Rattle.entries.proofs.Rising.{orderly_next, orderly_rest, orderly_with, orderly_end}
 use Rattle.entries.proofs.lists.rises.Goals as goal

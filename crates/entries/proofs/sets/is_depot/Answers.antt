@@ -1,4 +1,4 @@
-use Rattle.std.proofs.Common.{ltb, sym, ap, ◌∙◌}
+use Rattle.std.proofs.Common.{ltb, sym, ap}
 use Rattle.entries.proofs.Width.{as_many_marks}
 use Rattle.entries.proofs.sets.is_depot.Goals as goal
 

@@ -1,5 +1,5 @@
 -- the lines so far and those of the lamps to come are all lines
-use Rattle.std.proofs.Common.{◌≡◌, ◌+◌, ◌++◌, drop, vec_items, string_bytes}
+use Rattle.std.proofs.Common.{◌≡◌, ◌+◌, ◌++◌, drop, string_bytes}
 use Rattle.lamp_report.specs.Report.{lamps_text}
 use Rattle.lamp_report.proofs.report.lamp_lines.Given as goal
 

@@ -3,4 +3,4 @@ use Rattle.letters_tests.proofs.Lawfully.{lawful}
 use Rattle.letters_tests.proofs.worked.ask.Goals as goal
 
 pub set_plain-requires : goal.set_plain-requires
-set_plain-requires c = lawful 1 2 27 [] (omega arith) (omega arith) (omega arith) (omega arith) refl
+set_plain-requires g c = lawful 1 2 27 [] (omega arith) (omega arith) (omega arith) (omega arith) refl

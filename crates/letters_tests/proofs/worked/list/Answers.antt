@@ -5,7 +5,7 @@ use Rattle.letters_tests.proofs.worked.list.Goals as goal
 
 pub set_list-requires : goal.set_list-requires
 unfolding max_depots
-set_list-requires c =
+set_list-requires g c =
     record {
       placed = omega arith;
       lawful =

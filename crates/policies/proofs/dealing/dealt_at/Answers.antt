@@ -1,4 +1,4 @@
-use Rattle.std.proofs.Common.{◌/◌, ◌%◌, arith}
+use Rattle.std.proofs.Common.{arith}
 use Rattle.std.proofs.lemmas.Bool.Decides.{nat_tests}
 use Rattle.policies.specs.Dealt.{dealt_place_lem}
 use Rattle.policies.proofs.dealing.dealt_at.Goals as goal

@@ -1,5 +1,4 @@
 use Rattle.std.proofs.Common.{◌≡◌, take}
-use Rattle.entries.specs.declared.lists.Entries.{Entries}
 use Rattle.policies.specs.Shares.{reshelved}
 use Rattle.policies.proofs.sharing.deal_out.Given as goal
 

@@ -1,6 +1,5 @@
-use Rattle.std.proofs.Common.{◌≡◌, ◌<◌, length, sym, ap, ◌∙◌, arith}
+use Rattle.std.proofs.Common.{◌<◌, length, sym, ◌∙◌, arith}
 use Rattle.policies.proofs.Standing.{beside_here, beside_passed, beside_end}
-use Rattle.policies.proofs.sharing.share_of.Given as given
 use Rattle.policies.proofs.sharing.share_of.Goals as goal
 
 pub returns-then-next-depot : goal.returns-then-next-depot

@@ -1,6 +1,5 @@
-use Rattle.std.proofs.Common.{◌≡◌, ◌+◌, ◌-◌, length, drop, sym, ap, ◌∙◌, inl, inr, arith}
+use Rattle.std.proofs.Common.{◌+◌, ◌-◌, drop, sym, ap, ◌∙◌, inl, inr, arith}
 use Rattle.std.proofs.lemmas.List.{at_drop_all}
-use Rattle.std.proofs.lemmas.Bool.{cond_below}
 use Rattle.policies.specs.Shares.{rest}
 use Rattle.policies.specs.Granting.{rest_next, found_next, found_end}
 use Rattle.policies.proofs.wishes.granted_at.Goals as goal

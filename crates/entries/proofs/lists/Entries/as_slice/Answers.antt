@@ -1,4 +1,4 @@
-use Rattle.std.proofs.Common.{◌≡◌, ◌-◌, min, length, ◌∙◌, arith}
+use Rattle.std.proofs.Common.{◌≡◌, ◌-◌, min, length, arith}
 use Rattle.std.proofs.lemmas.List.{length-take}
 use Rattle.entries.proofs.Placing.{take_min}
 use Rattle.entries.proofs.Width.{as_many_marks}

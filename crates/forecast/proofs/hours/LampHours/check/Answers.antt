@@ -1,4 +1,4 @@
-use Rattle.std.proofs.Common.{◌≡◌, vec_items, sym, ap, ◌∙◌, arith}
+use Rattle.std.proofs.Common.{vec_items, sym, ap, ◌∙◌, arith}
 use Rattle.forecast.specs.Checking.{first_unlawful}
 use Rattle.forecast.proofs.Lawful.{lawful_from_none}
 use Rattle.forecast.proofs.hours.LampHours.check.Goals as goal

@@ -1,4 +1,4 @@
-use Rattle.std.proofs.Common.{◌≡◌, ℕ, ◌+◌, length, get_or, sym, ap, ◌∙◌, arith}
+use Rattle.std.proofs.Common.{◌≡◌, ◌+◌, get_or, arith}
 use Rattle.policies.specs.Shares.{wishes_first}
 use Rattle.policies.specs.Granting.{share_is, wishes_within}
 use Rattle.policies.proofs.wishes.WishesFirstPolicy.share_at.Goals as goal
