@@ -2,7 +2,7 @@
 use Rattle.std.proofs.Common.{◌≡◌, ℕ, ◌+◌, ◌-◌, ◌<◌, ◌≤◌, true, cond, eqb, List, [], ◌∷◌, length, get_or, drop, sym, ap, ◌∙◌, subst, inl, inr, arith}
 use mathlib.Core.Logic.{∥∥₁_elim, ∥∥₁_map}
 use denote.Struct.Props.{props}
-use Rattle.std.specs.List.{AllByRecursion as All}
+use Rattle.std.specs.List.{AllByRecursion}
 use Rattle.std.proofs.lemmas.List.{at_drop_more}
 use Rattle.std.proofs.lemmas.Bool.{cases_eq, false≢true}
 use Rattle.entries.specs.declared.lists.Entry.{Entry}
@@ -17,12 +17,13 @@ use Rattle.protocol.proofs.Changed.{bound_listed}
 use Rattle.book.proofs.Kept.{own_calls}
 
 -- depots below n are depots
-all_depots : (n : ℕ) (es : List Entry) → n ≤ max_depots → All (λ e. e.depot < n) es → All (λ e. e.depot < max_depots) es
+all_depots : (n : ℕ) (es : List Entry) → n ≤ max_depots → AllByRecursion (λ e. e.depot < n) es
+    → AllByRecursion (λ e. e.depot < max_depots) es
 all_depots n [] h all = tt
 all_depots n (e ∷ es) h all = (let l = all.0 in omega arith, all_depots n es h all.1)
 
 pub gathered_depots : (a : Site) (s : State) → (s.rows a.depot).standing ≡ 1 → ∥ Law a s ∥₁
-    → All (λ e. e.depot < max_depots) s.gathered
+    → AllByRecursion (λ e. e.depot < max_depots) s.gathered
 gathered_depots a s e ok =
     depots_known max_depots s.gathered
     (∥∥₁_map ok (λ law. all_depots a.n s.gathered law.site.size (law.lists.gathering e).0.begun.depots))
@@ -32,14 +33,14 @@ pub listed_now : (a : Site) (s : State) (L : ℕ) → (s.rows L).standing ≡ 2 
 listed_now a s L e ok = listed_known s.list (∥∥₁_map ok (λ law. bound_listed a s law L e))
 
 pub list_depots : (a : Site) (s : State) (L : ℕ) → (s.rows L).standing ≡ 2 → ∥ Law a s ∥₁
-    → All (λ e. e.depot < max_depots) s.list
+    → AllByRecursion (λ e. e.depot < max_depots) s.list
 list_depots a s L e ok = (listed_now a s L e ok).depots
 
 -- whoever stands on a record's list is a depot: a list is there only while the depot is bound
-pub all_list_depots : (a : Site) (s : State) → ∥ Law a s ∥₁ → All (λ e. e.depot < max_depots) s.list
+pub all_list_depots : (a : Site) (s : State) → ∥ Law a s ∥₁ → AllByRecursion (λ e. e.depot < max_depots) s.list
 all_list_depots a s ok = depots_known max_depots s.list (∥∥₁_map ok (λ law. elim (cases_eq (s.rows (leader a s)).standing 2) [
   | inl e ↦ (bound_listed a s law (leader a s) e).depots
-  | inr e ↦ subst (λ es. All (λ x. x.depot < max_depots) es) (sym (law.lists.unbound (λ L k. e (
+  | inr e ↦ subst (λ es. AllByRecursion (λ x. x.depot < max_depots) es) (sym (law.lists.unbound (λ L k. e (
       ap (λ l. (s.rows l).standing) ((own_calls a s law).found L (omega arith)) ∙ k
       ))).0) tt
 ]))

@@ -1,7 +1,7 @@
 -- What `insert` does to a list: one entry more, its pieces more in the pool, its depot more on the list, and a list
 -- begun stays one, since the new entry stands between a lower and a higher depot.
 use Rattle.std.proofs.Common.{◌≡◌, ℕ, ◌+◌, ◌<◌, ◌≤◌, Bool, true, false, ◌||◌, eqb, ltb, leb, List, [], ◌∷◌, length, drop, Ok, Err, sum_by, refl, ap, ◌∙◌, arith}
-use Rattle.std.specs.List.{AllByRecursion as All}
+use Rattle.std.specs.List.{AllByRecursion}
 use Rattle.std.proofs.lemmas.List.{take_at, length-take-le}
 use Rattle.std.proofs.lemmas.List.Sums.{sum_by-cons}
 use Rattle.std.proofs.lemmas.Bool.{cond_both, ltb-true, ltb-false, lt-ltb, le-ltb, eqb-false, or_parts}
@@ -44,12 +44,13 @@ insert_sum f e (x ∷ xs) =
 pub insert_pool : (e : Entry) (es : List Entry) → pool (insert e es) ≡ e.shelf + pool es
 insert_pool = insert_sum (λ e. e.shelf)
 
-pub insert_all : (P : Entry → Type 0) (e : Entry) (es : List Entry) → P e → All P es → All P (insert e es)
+pub insert_all : (P : Entry → Type 0) (e : Entry) (es : List Entry) → P e → AllByRecursion P es
+    → AllByRecursion P (insert e es)
 unfolding insert
 insert_all P e [] here all = (here, tt)
 insert_all P e (x ∷ xs) here all =
     let rest = insert_all P e xs here all.1 in
-    by_order (All P) e x xs (λ h. (here, all)) (λ h. (all.0, rest))
+    by_order (AllByRecursion P) e x xs (λ h. (here, all)) (λ h. (all.0, rest))
 
 or_across : (a b c : Bool) → (a || (b || c)) ≡ (b || (a || c))
 or_across true true c = refl

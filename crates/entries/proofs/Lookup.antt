@@ -1,7 +1,7 @@
 -- Looking a depot up on a list, entry by entry: what is left of the list gives the answer, until the depot is met.
 use Rattle.std.proofs.Common.{◌≡◌, ℕ, ◌+◌, ◌<◌, ◌≤◌, true, false, cond, ◌||◌, eqb, List, [], ◌∷◌, length, get_or, drop, Some, None, Option, sym, refl, ap, arith}
 use Rattle.std.proofs.lemmas.List.{at_drop_more, at_drop_all}
-use Rattle.std.specs.List.{AllByRecursion as All}
+use Rattle.std.specs.List.{AllByRecursion}
 use Rattle.std.proofs.lemmas.Bool.{eq-eqb, ne_eqb, eqb-true, cond_both, false≢true}
 use Rattle.entries.specs.declared.lists.Entry.{Entry}
 use Rattle.entries.specs.Lists.{blank, on, entry_of}
@@ -45,7 +45,8 @@ pub missing : (es : List Entry) (d : ℕ) → on es d ≡ false → None ≡ loo
 missing es d t = rw t
 
 -- what is known of every entry is known of the one that is found
-pub entry_all : (P : Entry → Type 0) (es : List Entry) (d : ℕ) → All P es → on es d ≡ true → P (entry_of es d)
+pub entry_all : (P : Entry → Type 0) (es : List Entry) (d : ℕ) → AllByRecursion P es → on es d ≡ true
+    → P (entry_of es d)
 unfolding on entry_of
 entry_all P [] d all there = absurd (false≢true there)
 entry_all P (e ∷ es) d all there =
@@ -61,7 +62,7 @@ entry_depot (e ∷ es) d =
     (λ t. eqb-true e.depot d t)
     (λ t. entry_depot es d)
 
-pub on_below : (n : ℕ) (es : List Entry) (d : ℕ) → All (λ e. e.depot < n) es → on es d ≡ true → d < n
+pub on_below : (n : ℕ) (es : List Entry) (d : ℕ) → AllByRecursion (λ e. e.depot < n) es → on es d ≡ true → d < n
 on_below n es d low there =
     let found-low = entry_all (λ e. e.depot < n) es d low there in
     let is = entry_depot es d in

@@ -2,7 +2,7 @@
 -- one digit, so that each law follows by recursion on the depot.
 use Rattle.std.proofs.Common.{◌≡◌, ℕ, zero, suc, ◌+◌, ◌-◌, ◌/◌, ◌%◌, ◌^◌, ◌<◌, ◌≤◌, min, max, Bool, true, false, not, ◌&&◌, ◌||◌, eqb, ltb, List, [], ◌∷◌, Decides, sym, refl, ap, ◌∙◌, ⊎_elim, pow-suc, arith}
 use lib.Bits.{bit_and, bit_or, and_step, or_step, and_zero_r, and_le_l}
-use Rattle.std.specs.List.{AllByRecursion as All}
+use Rattle.std.specs.List.{AllByRecursion}
 use Rattle.std.proofs.lemmas.Nat.{pow_pos}
 use Rattle.std.proofs.lemmas.Bool.{cases_Bool, cases_eq, eqb-true, eq-eqb}
 use Rattle.std.proofs.lemmas.Bool.Decides.{nat_tests}
@@ -229,7 +229,7 @@ covers_within set other = (
 )
 
 -- the set of a list's depots lies below where they do
-pub names_below : (n : ℕ) (es : List Entry) → All (λ e. e.depot < n) es → names es < 2 ^ n
+pub names_below : (n : ℕ) (es : List Entry) → AllByRecursion (λ e. e.depot < n) es → names es < 2 ^ n
 names_below n es low =
     from_width n (names es) (λ i there. on_below n es i low (sym (has_names es i) ∙ there))
 

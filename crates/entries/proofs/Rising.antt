@@ -1,7 +1,7 @@
 -- Lists whose depots rise: read entry by entry they are orderly, and below n they have at most n entries, so that a
 -- list begun needs only a second entry to be a list.
 use Rattle.std.proofs.Common.{ℕ, ◌+◌, ◌<◌, ◌≤◌, List, [], ◌∷◌, length, get_or, drop, sym, subst, arith}
-use Rattle.std.specs.List.{AllByRecursion as All}
+use Rattle.std.specs.List.{AllByRecursion}
 use Rattle.std.proofs.lemmas.List.{drop_more, drop_all}
 use Rattle.entries.specs.declared.lists.Entry.{Entry}
 use Rattle.entries.specs.Limits.{max_depots, max_wish, max_pool}
@@ -11,16 +11,16 @@ pub orderly_rises : (d : ℕ) (es : List Entry) → Orderly d es → RisesFrom d
 orderly_rises d [] ok = tt
 orderly_rises d (e ∷ es) ok = (ok.0.0, orderly_rises (e.depot + 1) es ok.1)
 
-pub orderly_depots : (d : ℕ) (es : List Entry) → Orderly d es → All (λ e. e.depot < max_depots) es
+pub orderly_depots : (d : ℕ) (es : List Entry) → Orderly d es → AllByRecursion (λ e. e.depot < max_depots) es
 orderly_depots d [] ok = tt
 orderly_depots d (e ∷ es) ok = (ok.0.1, orderly_depots (e.depot + 1) es ok.1)
 
-pub orderly_wishes : (d : ℕ) (es : List Entry) → Orderly d es → All (λ e. e.wish ≤ max_wish) es
+pub orderly_wishes : (d : ℕ) (es : List Entry) → Orderly d es → AllByRecursion (λ e. e.wish ≤ max_wish) es
 orderly_wishes d [] ok = tt
 orderly_wishes d (e ∷ es) ok = (ok.0.2, orderly_wishes (e.depot + 1) es ok.1)
 
-pub orderly_from : (d : ℕ) (es : List Entry) → RisesFrom d es → All (λ e. e.depot < max_depots) es
-    → All (λ e. e.wish ≤ max_wish) es → Orderly d es
+pub orderly_from : (d : ℕ) (es : List Entry) → RisesFrom d es → AllByRecursion (λ e. e.depot < max_depots) es
+    → AllByRecursion (λ e. e.wish ≤ max_wish) es → Orderly d es
 orderly_from d [] rises depots wishes = tt
 orderly_from d (e ∷ es) rises depots wishes =
     ((rises.0, depots.0, wishes.0), orderly_from (e.depot + 1) es rises.1 depots.1 wishes.1)
@@ -40,7 +40,8 @@ module _ (es : List Entry) (i d : ℕ) where
   pub orderly_end : length es ≤ i → Orderly d (drop i es)
   orderly_end end = subst (Orderly d) (sym (drop_all i es end)) tt
 
-pub rising_short : (n d : ℕ) (es : List Entry) → d ≤ n → RisesFrom d es → All (λ e. e.depot < n) es → d + length es ≤ n
+pub rising_short : (n d : ℕ) (es : List Entry) → d ≤ n → RisesFrom d es → AllByRecursion (λ e. e.depot < n) es
+    → d + length es ≤ n
 rising_short n d [] low rises depots = omega arith
 rising_short n d (e ∷ es) low rises depots =
     let rest : e.depot + 1 + length es ≤ n =

@@ -1,6 +1,6 @@
 -- Lists of entries, each with a depot, its shelf and its wish.
 use Rattle.std.specs.Prelude.{ℕ, ◌+◌, ◌<◌, ◌≤◌, Bool, false, cond, ◌||◌, List, [], ◌∷◌, length, take, sum_by, ◌==◌, nat_lt}
-use Rattle.std.specs.List.{AllByRecursion as All}
+use Rattle.std.specs.List.{AllByRecursion}
 use Rattle.entries.specs.declared.lists.Entry.{Entry}
 use Rattle.entries.specs.declared.lists.Entries.{Entries}
 use Rattle.entries.specs.Limits.{max_depots, max_wish, max_pool}
@@ -32,8 +32,8 @@ pub record Listed (es : List Entry) : Type 0 where
   pub two : 2 ≤ length es
   pub few : length es ≤ max_depots
   pub rises : Rises es
-  pub depots : All (λ e. e.depot < max_depots) es
-  pub wishes : All (λ e. e.wish ≤ max_wish) es
+  pub depots : AllByRecursion (λ e. e.depot < max_depots) es
+  pub wishes : AllByRecursion (λ e. e.wish ≤ max_wish) es
   pub sum_within : pool es ≤ max_pool
 
 -- an entry may stand next, where the depots so far lie below d
@@ -49,8 +49,8 @@ Orderly d (e ∷ es) = MayFollow d e × Orderly (e.depot + 1) es
 -- may have fewer than two entries
 pub record Begun (n : ℕ) (es : List Entry) : Type 0 where
   pub rises : Rises es
-  pub depots : All (λ e. e.depot < n) es
-  pub wishes : All (λ e. e.wish ≤ max_wish) es
+  pub depots : AllByRecursion (λ e. e.depot < n) es
+  pub wishes : AllByRecursion (λ e. e.wish ≤ max_wish) es
   pub sum_within : pool es ≤ max_pool
 
 -- depot d is on the list

@@ -1,6 +1,6 @@
 // Entries, and lists of them.
 ghost use Rattle.std.specs.Prelude.{◌≡◌, ℕ, ◌+◌, ◌<◌, ◌≤◌, Bool, true, length, if◌then◌else◌, Some, None, Decides, nat_le};
-ghost use Rattle.std.specs.List.{AllByRecursion as All};
+ghost use Rattle.std.specs.List.{AllByRecursion};
 ghost use Rattle.entries.specs.Limits.{max_depots, max_pool};
 ghost use Rattle.entries.specs.Lists.{pool, Listed, on, entry_of, names, MayFollow, Orderly};
 
@@ -72,7 +72,7 @@ pub fn on_list(list: &[Entry], depot: u8) -> bool
 /// The set of the depots on a list. Callers have the list from a letter that was read or from a record, where every
 /// depot lies below the greatest number.
 pub fn names_of(list: &[Entry]) -> Depots
-    requires { All (λ e. e.depot < max_depots) list.now }
+    requires { AllByRecursion (λ e. e.depot < max_depots) list.now }
     ensures { result.0 ≡ names list.now }
 {
     let mut set = Depots::none();

@@ -1,7 +1,7 @@
 -- What lawful lamps give: each of them is lawful, and the forecast over them stays far below 2 to the power 32, since a
 -- lamp needs at most its hours and the period together.
 use Rattle.std.proofs.Common.{◌≡◌, ℕ, ◌+◌, ◌<◌, ◌≤◌, true, false, List, [], ◌∷◌, length, get_or, drop, Some, None, refl, ◌∙◌, ⊎_elim, div-le_self, arith}
-use Rattle.std.specs.List.{AllByRecursion as All}
+use Rattle.std.specs.List.{AllByRecursion}
 use Rattle.std.proofs.ByRecursion.{All-get_or, All-weaker, sum_by_le}
 use Rattle.std.proofs.lemmas.List.{at_drop_more}
 use Rattle.std.proofs.lemmas.Bool.{and_parts, and_from, cases_Bool, cond-true, cond-false}
@@ -10,7 +10,7 @@ use Rattle.forecast.specs.declared.lamp.Lamp.{Lamp}
 use Rattle.forecast.specs.Checking.{lawful, all_lawful, first_unlawful, max_lamps, max_period}
 use Rattle.forecast.specs.Hours.{lamp_need, forecast}
 
-each_lawful : (lamps : List Lamp) → all_lawful lamps ≡ true → All (λ lamp. lawful lamp ≡ true) lamps
+each_lawful : (lamps : List Lamp) → all_lawful lamps ≡ true → AllByRecursion (λ lamp. lawful lamp ≡ true) lamps
 each_lawful [] h = tt
 each_lawful (lamp ∷ lamps) h =
     let parts = and_parts (lawful lamp) (all_lawful lamps) h in

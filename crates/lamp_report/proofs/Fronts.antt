@@ -3,7 +3,7 @@ use Rattle.std.proofs.Common.{◌≡◌, ℕ, ◌+◌, ◌<◌, List, [], ◌∷
 use lib.ListN.{length-map}
 use Rattle.std.proofs.ByRecursion.{All-push}
 use Rattle.std.proofs.lemmas.List.{append-nil, flat_map_more, map_push, nil_from_length}
-use Rattle.std.specs.List.{AllByRecursion as All}
+use Rattle.std.specs.List.{AllByRecursion}
 use Rattle.forecast.specs.declared.lamp.Lamp.{Lamp}
 use Rattle.text_lines.specs.Reading.{blank, line_end}
 use Rattle.lamp_report.specs.Lines.{Line, NoLine, Short, line_before, line_of, lines_of, pairs_of}
@@ -11,7 +11,7 @@ use Rattle.lamp_report.specs.Reading.{Misreads}
 
 -- the bytes are these lines and then the rest
 pub record Fronted (lines : List (ℕ × ℕ)) (rest bytes : List ℕ) : Type 0 where
-  pub short : All Short lines
+  pub short : AllByRecursion Short lines
   pub same : bytes ≡ lines_of lines ++ rest
 
 line_front : (numbers : ℕ × ℕ) (rest : List ℕ) → line_before rest numbers ≡ line_of numbers ++ rest

@@ -1,6 +1,6 @@
 -- What reading a sheet answers.
 use Rattle.std.specs.Prelude.{◌≡◌, ℕ, ◌+◌, List, ◌++◌, length, Some, None, Ok, Err, Option, Result}
-use Rattle.std.specs.List.{AllByRecursion as All}
+use Rattle.std.specs.List.{AllByRecursion}
 use Rattle.text_lines.specs.declared.Reader.{Reader}
 use Rattle.text_lines.specs.Reading.{left}
 use Rattle.lamp_report.specs.declared.sheet.Fault.{Fault}
@@ -10,7 +10,7 @@ use Rattle.lamp_report.specs.Lines.{Short, Line, NoLine, numbers_of, lines_of}
 
 -- the bytes are just the lines of this sheet
 pub record Reads (sheet : Sheet) (bytes : List ℕ) : Type 0 where
-  pub short : All Short (numbers_of sheet)
+  pub short : AllByRecursion Short (numbers_of sheet)
   pub same : bytes ≡ lines_of (numbers_of sheet)
 
 -- Line n is the first of another form: the lines before it are lines of two numbers, and what follows them begins with
@@ -19,7 +19,7 @@ pub record Misreads (n : ℕ) (bytes : List ℕ) : Type 0 where
   pub before : List (ℕ × ℕ)
   pub rest : List ℕ
   pub count : n ≡ length before + 1
-  pub short : All Short before
+  pub short : AllByRecursion Short before
   pub same : bytes ≡ lines_of before ++ rest
   pub other : NoLine rest
   pub some : length rest ≡ 0 → n ≡ 1

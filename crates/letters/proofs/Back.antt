@@ -1,6 +1,6 @@
 -- A lawful letter is read back from its bytes: each test passes, since each number fits its bytes.
 use Rattle.std.proofs.Common.{◌≡◌, ℕ, ◌+◌, ◌*◌, ◌/◌, ◌%◌, true, ◌&&◌, ltb, leb, List, [], ◌∷◌, length, Option, refl, arith}
-use Rattle.std.specs.List.{AllByRecursion as All}
+use Rattle.std.specs.List.{AllByRecursion}
 use Rattle.std.proofs.lemmas.Bool.{le-leb, lt-ltb, eq-eqb, and_from}
 use Rattle.entries.specs.declared.lists.Entry.{Entry}
 use Rattle.entries.specs.Lists.{RisesFrom}
@@ -39,15 +39,15 @@ entry_passes owner p e rest h o =
     (refl, (and_from _ _ (lt-ltb _ _ h.depot_below) o, (w, (s, tt))))
 
 -- entries one after another
-pub entries_back : (es : List Entry) → All LawfulEntry es → first_entries (length es) (entries_bytes es) ≡ es
+pub entries_back : (es : List Entry) → AllByRecursion LawfulEntry es → first_entries (length es) (entries_bytes es) ≡ es
 entries_back [] h = refl
 entries_back (e ∷ es) h =
     let one = entry_back e (entries_bytes es) h.0 in
     let more = entries_back es h.1 in
     cc
 
-pub entries_pass : (owner : Option ℕ) (p : ℕ) (es : List Entry) → All LawfulEntry es →
-    All (λ e. owns owner e.depot ≡ true) es → Passed (entries_tests (length es) owner p (entries_bytes es))
+pub entries_pass : (owner : Option ℕ) (p : ℕ) (es : List Entry) → AllByRecursion LawfulEntry es →
+    AllByRecursion (λ e. owns owner e.depot ≡ true) es → Passed (entries_tests (length es) owner p (entries_bytes es))
 entries_pass owner p [] h o = tt
 entries_pass owner p (e ∷ es) h o =
     passed_join (entry_tests owner p (entry_bytes e (entries_bytes es))) _

@@ -1,7 +1,7 @@
 -- What a kind carries, and what reading tests the entries of that kind for, are the same: by the three cases of a
 -- kind, an Offer, a List and every other.
 use Rattle.std.proofs.Common.{◌≡◌, ℕ, ◌<◌, ◌≤◌, true, not, ◌||◌, eqb, leb, List, [], ◌∷◌, length, refl, inl, inr, arith}
-use Rattle.std.specs.List.{AllByRecursion as All}
+use Rattle.std.specs.List.{AllByRecursion}
 use Rattle.std.proofs.lemmas.Bool.{cases_eq, eq-eqb, eqb-true, ne_eqb, le-leb, leb-true, and_from, and_parts}
 use Rattle.std.proofs.lemmas.List.{nil_from_length}
 use Rattle.std.proofs.ByRecursion.{All-weaker, All-from_get_or}
@@ -15,8 +15,8 @@ use Rattle.letters.specs.Reading.{count_fits, owner_of, owns}
 -- what reading tests the entries for
 pub record Fits (kind sender : ℕ) (es : List Entry) : Type 0 where
   pub count : count_fits kind (length es) ≡ true
-  pub owned : All (λ e. owns (owner_of kind sender) e.depot ≡ true) es
-  pub each : All LawfulEntry es
+  pub owned : AllByRecursion (λ e. owns (owner_of kind sender) e.depot ≡ true) es
+  pub each : AllByRecursion LawfulEntry es
   pub rises : Rises es
   pub sum : (not (eqb kind list_kind) || leb (pool es) max_pool) ≡ true
 
@@ -35,7 +35,7 @@ offered_fits s es h =
       sum = refl;
     }
 
-all_owned : (es : List Entry) → All (λ e. owns (owner_of list_kind 0) e.depot ≡ true) es
+all_owned : (es : List Entry) → AllByRecursion (λ e. owns (owner_of list_kind 0) e.depot ≡ true) es
 all_owned [] = tt
 all_owned (e ∷ es) = (refl, all_owned es)
 
@@ -43,13 +43,14 @@ no_entry : Entry
 no_entry = record { depot = 0; shelf = 0; wish = 0 }
 
 -- a shelf of a list holds no more than all its shelves together
-shelves_within : (es : List Entry) → pool es ≤ max_pool → All (λ e. e.shelf ≤ max_shelf) es
+shelves_within : (es : List Entry) → pool es ≤ max_pool → AllByRecursion (λ e. e.shelf ≤ max_shelf) es
 shelves_within es h =
     All-from_get_or (λ e. e.shelf ≤ max_shelf) es no_entry
     (λ i l. omega (arith, get_or-le-sum_by (λ e. e.shelf) es i no_entry l))
 
-all_lawful_lem : (es : List Entry) → All (λ e. e.depot < max_depots) es → All (λ e. e.wish ≤ max_wish) es →
-    All (λ e. e.shelf ≤ max_shelf) es → All LawfulEntry es
+all_lawful_lem : (es : List Entry) → AllByRecursion (λ e. e.depot < max_depots) es
+    → AllByRecursion (λ e. e.wish ≤ max_wish) es →
+    AllByRecursion (λ e. e.shelf ≤ max_shelf) es → AllByRecursion LawfulEntry es
 all_lawful_lem [] d w s = tt
 all_lawful_lem (e ∷ es) d w s =
     (record { depot_below = d.0; wish_within = w.0; shelf_within = s.0 }, all_lawful_lem es d.1 w.1 s.1)

@@ -1,6 +1,6 @@
 -- No other bytes are read as a letter: bytes that pass each test are the form of the letter in them, which is lawful.
 use Rattle.std.proofs.Common.{◌≡◌, ℕ, zero, suc, ◌+◌, ◌*◌, ◌/◌, ◌%◌, ◌<◌, ◌≤◌, true, eqb, ltb, leb, List, [], ◌∷◌, length, drop, Some, None, Option, sym, refl, ap, ◌∙◌, subst, arith}
-use Rattle.std.specs.List.{AllByRecursion as All}
+use Rattle.std.specs.List.{AllByRecursion}
 use Rattle.std.proofs.lemmas.Bool.{leb-true, ltb-true, eqb-true, and_parts}
 use Rattle.std.proofs.lemmas.List.{drop_more, nil_from_length, length-drop}
 use Rattle.std.proofs.ByRecursion.{All-drop, All-from_get_or}
@@ -45,8 +45,8 @@ entry_form owner p bs hb long h =
 -- entries one after another
 pub entries_form : (n : ℕ) (owner : Option ℕ) (p : ℕ) (bs : List ℕ) → Bytes bs → length bs ≡ entry_len * n →
     Passed (entries_tests n owner p bs) →
-    (bs ≡ entries_bytes (first_entries n bs)) × All LawfulEntry (first_entries n bs)
-    × All (λ e. owns owner e.depot ≡ true) (first_entries n bs)
+    (bs ≡ entries_bytes (first_entries n bs)) × AllByRecursion LawfulEntry (first_entries n bs)
+    × AllByRecursion (λ e. owns owner e.depot ≡ true) (first_entries n bs)
 entries_form zero owner p bs hb long h = (nil_from_length bs (omega arith), tt, tt)
 entries_form (suc n) owner p bs hb long h =
     let rest = drop entry_len bs in

@@ -1,13 +1,13 @@
 -- Tests one after another: none fails exactly where each passes, and the first that fails of two lists is that of the
 -- first list, or where it has none that of the second.
 use Rattle.std.proofs.Common.{◌≡◌, ℕ, true, List, [], ◌∷◌, ◌++◌, Some, None, Option, sym, refl, inl, inr, arith}
-use Rattle.std.specs.List.{AllByRecursion as All}
+use Rattle.std.specs.List.{AllByRecursion}
 use Rattle.std.proofs.lemmas.Bool.{cases_Bool}
 use Rattle.std.proofs.ByRecursion.{All-append}
 use Rattle.letters.specs.Reading.{Refusal, reading, Test, first_failed}
 
 abbrev pub Passed : List Test → Type 0
-Passed ds = All (λ d. d.passes ≡ true) ds
+Passed ds = AllByRecursion (λ d. d.passes ≡ true) ds
 
 pub passed_none : (ds : List Test) → Passed ds → first_failed ds ≡ None
 passed_none [] h = refl

@@ -1,13 +1,13 @@
 -- Letters and entries as bytes. In every number the high byte stands first.
 use Rattle.std.specs.Prelude.{ℕ, zero, suc, ◌+◌, ◌*◌, ◌/◌, ◌%◌, ◌<◌, List, [], ◌∷◌, slice_index}
-use Rattle.std.specs.List.{AllByRecursion as All}
+use Rattle.std.specs.List.{AllByRecursion}
 use Rattle.entries.specs.declared.lists.Entry.{Entry}
 use Rattle.letters.specs.Format.{letter_mark, entry_mark, mark_len, to_len, number_len, wish_len, shelf_len}
 use Rattle.letters.specs.Contents.{Contents}
 
 -- numbers that are bytes
 abbrev pub Bytes : List ℕ → Type 0
-Bytes bs = All (λ b. b < 256) bs
+Bytes bs = AllByRecursion (λ b. b < 256) bs
 
 -- the low bytes of n, as many as the width says, and then the rest
 abbrev pub number_bytes : ℕ → ℕ → List ℕ → List ℕ

@@ -1,6 +1,6 @@
 -- What a letter says, and which letters are lawful.
 use Rattle.std.specs.Prelude.{◌≡◌, ℕ, ◌^◌, ◌<◌, ◌≤◌, cond, List, [], length, ◌==◌}
-use Rattle.std.specs.List.{AllByRecursion as All}
+use Rattle.std.specs.List.{AllByRecursion}
 use Rattle.entries.specs.declared.lists.Entry.{Entry}
 use Rattle.entries.specs.Limits.{max_depots, max_wish, max_shelf}
 use Rattle.entries.specs.Lists.{Listed}
@@ -37,8 +37,8 @@ pub record LawfulEntry (e : Entry) : Type 0 where
 -- an Offer carries its sender's entry
 pub record Offered (sender : ℕ) (es : List Entry) : Type 0 where
   pub one : length es ≡ 1
-  pub own : All (λ e. e.depot ≡ sender) es
-  pub lawful : All LawfulEntry es
+  pub own : AllByRecursion (λ e. e.depot ≡ sender) es
+  pub lawful : AllByRecursion LawfulEntry es
 
 -- what a letter of a kind carries: an Offer one entry, a List a list, every other kind nothing
 abbrev pub Carries : ℕ → ℕ → List Entry → Type 0

@@ -1,6 +1,6 @@
 -- The law of a record after each way in which calls change it, given what the call has tested before.
 use Rattle.std.proofs.Common.{◌≡◌, ℕ, ◌+◌, ◌<◌, ◌≤◌, true, false, not, ◌&&◌, eqb, ◌⊎◌, List, [], ◌∷◌, sum, sym, refl, ap, ◌∙◌, subst, inl, inr, arith}
-use Rattle.std.specs.List.{AllByRecursion as All}
+use Rattle.std.specs.List.{AllByRecursion}
 use Rattle.std.proofs.lemmas.List.Sums.{sum_by-cons}
 use Rattle.std.proofs.lemmas.Bool.{and_parts, both_ways, cases_eq, eqb-true, eq-eqb, not-true, or_cases, or_left, false≢true, cond-true, cond_both}
 use Rattle.entries.specs.declared.lists.Entry.{Entry}
@@ -23,7 +23,7 @@ use Rattle.protocol.proofs.LawfulLists.{listed_of, two}
 use Rattle.protocol.proofs.LawfulLists.{insert_on, insert_entry}
 use Rattle.protocol.proofs.RowSet.{idle, turned_law}
 
-pub all_on : (Q : ℕ → Type 0) (ℓ : List Entry) (y : ℕ) → All (λ e. Q e.depot) ℓ → on ℓ y ≡ true → Q y
+pub all_on : (Q : ℕ → Type 0) (ℓ : List Entry) (y : ℕ) → AllByRecursion (λ e. Q e.depot) ℓ → on ℓ y ≡ true → Q y
 unfolding on
 all_on Q [] y h k = absurd (false≢true k)
 all_on Q (e ∷ ℓ) y h k =
@@ -53,10 +53,10 @@ module _ (a : Site) (s : State) (law : Law a s) where
       listed_of a L s.shelf s.wish s.list law.site.size b.list
       (two a.depot s.list b.list.me n)
 
-  pub names_known : (es : List Entry) → All (λ e. e.depot < max_depots) es → Below max_depots (names es)
+  pub names_known : (es : List Entry) → AllByRecursion (λ e. e.depot < max_depots) es → Below max_depots (names es)
   names_known es h = names_below max_depots es (λ y k. all_on (λ x. x < max_depots) es y h k)
 
-  pub others_below : (es : List Entry) → All (λ e. e.depot < max_depots) es → Below max_depots (others a es)
+  pub others_below : (es : List Entry) → AllByRecursion (λ e. e.depot < max_depots) es → Below max_depots (others a es)
   others_below es h = less_below max_depots (names es) (mark a.depot) (names_known es h)
 
   pub idle_stock : (n v : ℕ) → engaged a s ≡ false → n + s.tray ≤ max_shelf → v ≤ max_wish →

@@ -15,7 +15,7 @@ use Rattle.protocol.specs.Series.{Stage, posted, just_opened, outcome, Series, s
 use Rattle.protocol.specs.State.{upd, Site, State, stocked, owed, hears, gathers, turned, bound, ended, settled, own}
 use Rattle.protocol.specs.State.{others, pair}
 use Rattle.protocol.specs.Taking.{kind_of, tells_end}
-use Rattle.std.specs.List.{AllByRecursion as All}
+use Rattle.std.specs.List.{AllByRecursion}
 use Rattle.letters.specs.declared.letter.Kind.{Kind}
 use Rattle.letters.specs.declared.letter.Kind.TheVariants as kinds
 use Rattle.entries.specs.Sets.{has, mark, add}
@@ -71,7 +71,7 @@ Idle w d = (L : ℕ) → Engages (standing w d L) → ⊥
 -- a list to bind to: d is on it with this shelf
 pub record BindingList (N d shelf : ℕ) (ℓ : List Entry) : Type 0 where
   pub listed : Listed ℓ
-  pub low : All (λ e. e.depot < N) ℓ
+  pub low : AllByRecursion (λ e. e.depot < N) ℓ
   pub me : on ℓ d ≡ true
   pub mine : (entry_of ℓ d).shelf ≡ shelf
 

@@ -1,7 +1,7 @@
 -- What a record's law and a lawful letter say of the lists in them: of an entry gathered, of a list with another depot
 -- on it, and of what a letter of each kind carries.
 use Rattle.std.proofs.Common.{◌≡◌, ℕ, ◌<◌, ◌≤◌, true, false, cond, eqb, ltb, List, [], ◌∷◌, length, refl, ap, inl, inr, arith}
-use Rattle.std.specs.List.{AllByRecursion as All}
+use Rattle.std.specs.List.{AllByRecursion}
 use Rattle.std.proofs.lemmas.Bool.{eqb-true, ltb-true, and_parts, and_from, or_cases, cases_Bool, both_ways, eq-eqb, false≢true, cond-true, cond_both, or_left, or_right, cond-false, ne_eqb}
 use Rattle.entries.specs.declared.lists.Entry.{Entry}
 use Rattle.letters.specs.declared.letter.Kind.{Kind}
@@ -51,7 +51,7 @@ pub fits_on : (d n v : ℕ) (ℓ : List Entry) → fits d n v ℓ ≡ true → (
 unfolding fits
 fits_on d n v ℓ h = let (a, b) = and_parts _ _ h in let (c, e) = and_parts _ _ b in (a, eqb-true _ _ c, eqb-true _ _ e)
 
-pub every_all : (N : ℕ) (ℓ : List Entry) → every ℓ (λ y. ltb y N) ≡ true → All (λ e. e.depot < N) ℓ
+pub every_all : (N : ℕ) (ℓ : List Entry) → every ℓ (λ y. ltb y N) ≡ true → AllByRecursion (λ e. e.depot < N) ℓ
 unfolding every
 every_all N [] h = tt
 every_all N (e ∷ ℓ) h = let (a, b) = and_parts (ltb e.depot N) (every ℓ (λ y. ltb y N)) h in

@@ -1,6 +1,6 @@
 -- Sums over the depots, and over a list's entries: a list's depots rise, so a sum over the list is one over the depots.
 use Rattle.std.proofs.Common.{◌≡◌, ℕ, zero, suc, ◌+◌, ◌<◌, ◌≤◌, true, cond, ◌||◌, eqb, List, [], ◌∷◌, length, sum, sym, refl, ap, ◌∙◌, ap₂, inl, inr, arith}
-use Rattle.std.specs.List.{AllByRecursion as All}
+use Rattle.std.specs.List.{AllByRecursion}
 use Rattle.std.proofs.lemmas.Bool.Decides.{nat_tests}
 use Rattle.std.proofs.lemmas.Bool.{cases_eq, eqb-true, or_cases, eq-eqb, ne_eqb, cond-true, cond-false}
 use Rattle.std.proofs.lemmas.List.Sums.{sum_by-cons}
@@ -14,7 +14,7 @@ abbrev pub Rising : ℕ → ℕ → List Entry → Type 0
 Rising N b [] = Unit {0}
 Rising N b (e ∷ ℓ) = (b ≤ e.depot) × (e.depot < N) × Rising N (e.depot + 1) ℓ
 
-pub rising_of : (N b : ℕ) (ℓ : List Entry) → RisesFrom b ℓ → All (λ e. e.depot < N) ℓ → Rising N b ℓ
+pub rising_of : (N b : ℕ) (ℓ : List Entry) → RisesFrom b ℓ → AllByRecursion (λ e. e.depot < N) ℓ → Rising N b ℓ
 rising_of N b [] r h = tt
 rising_of N b (e ∷ ℓ) r h = (r.0, h.0, rising_of N (e.depot + 1) ℓ r.1 h.1)
 

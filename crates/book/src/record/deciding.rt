@@ -1,7 +1,7 @@
 // What Receive looks at before it chooses a line: the refusals that come first, where the depot stands in the letter's
 // handover, and what the guards of the lines ask.
 ghost use Rattle.std.specs.Prelude.{◌≡◌, ℕ, ◌<◌, ◌&&◌, List, [], ◌∷◌};
-ghost use Rattle.std.specs.List.{AllByRecursion as All};
+ghost use Rattle.std.specs.List.{AllByRecursion};
 ghost use Rattle.entries.specs.declared.lists.Entry.{Entry};
 ghost use Rattle.entries.specs.Limits.{max_depots};
 ghost use Rattle.entries.specs.Lists.{list_of};
@@ -98,7 +98,7 @@ impl Record {
     /// Whether the depot can accept a list: it names only depots of the set, has the leader, and has the own entry as
     /// shelf and wish are.
     fn can_accept(&self, leader: u8, list: &[Entry]) -> bool
-        requires { All (λ e. e.depot < max_depots) list.now }
+        requires { AllByRecursion (λ e. e.depot < max_depots) list.now }
         ensures { (y n : ℕ) → result ≡ acceptable_list (site self.now) (view self.now) leader y n
             list.now }
     {
@@ -121,7 +121,7 @@ impl Record {
 
     /// What the guards of the lines ask about a letter with this head and these entries.
     pub(crate) fn situation(&self, head: Head, entries: &Entries) -> Situation
-        requires { All (λ e. e.depot < max_depots) (list_of entries.now) }
+        requires { AllByRecursion (λ e. e.depot < max_depots) (list_of entries.now) }
         ensures { result ≡ situation (site self.now) (view self.now) head.leader head.sender
             head.number (list_of entries.now) }
     {

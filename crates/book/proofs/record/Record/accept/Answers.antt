@@ -1,5 +1,5 @@
 use Rattle.std.proofs.Common.{◌≡◌, ℕ, ◌<◌, Bool, [], sym, refl, ap, ◌∙◌, subst, arith}
-use Rattle.std.specs.List.{AllByRecursion as All}
+use Rattle.std.specs.List.{AllByRecursion}
 use Rattle.entries.specs.Limits.{max_depots}
 use Rattle.entries.specs.Lists.{list_of, names}
 use Rattle.entries.specs.Sets.{has, covers, less, mark, add}

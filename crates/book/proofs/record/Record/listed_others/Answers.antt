@@ -1,5 +1,5 @@
 use Rattle.std.proofs.Common.{◌≡◌, ◌<◌, sym, ap, ◌∙◌, subst}
-use Rattle.std.specs.List.{AllByRecursion as All}
+use Rattle.std.specs.List.{AllByRecursion}
 use Rattle.entries.specs.Limits.{max_depots}
 use Rattle.entries.specs.Lists.{names}
 use Rattle.entries.specs.Sets.{less, mark}
@@ -10,7 +10,7 @@ use Rattle.book.proofs.record.Record.listed_others.Goals as goal
 pub names_of-requires : goal.names_of-requires
 names_of-requires c =
     let r = c.args.self.now in
-    subst (λ es. All (λ e. e.depot < max_depots) es) (sym c.as_slice.ensures.list)
+    subst (λ es. AllByRecursion (λ e. e.depot < max_depots) es) (sym c.as_slice.ensures.list)
     (all_list_depots (site r) (view r) r.kept)
 
 pub returns : goal.returns

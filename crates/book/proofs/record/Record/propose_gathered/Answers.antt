@@ -1,5 +1,5 @@
 use Rattle.std.proofs.Common.{◌≡◌, ◌<◌, get_or, sym, refl, ap, ◌∙◌, subst, ap₂, arith, length-set}
-use Rattle.std.specs.List.{AllByRecursion as All}
+use Rattle.std.specs.List.{AllByRecursion}
 use Rattle.entries.specs.Limits.{max_depots}
 use Rattle.entries.specs.Sets.{less, mark}
 use Rattle.entries.specs.Lists.{names}
@@ -25,7 +25,7 @@ next r = record { number = (get_or r.rows.of r.identity.depot blank_row).number;
 pub names_of-requires : goal.names_of-requires
 names_of-requires c =
     let r = c.args.self.now in
-    subst (λ es. All (λ e. e.depot < max_depots) es) (sym c.as_slice.ensures.list)
+    subst (λ es. AllByRecursion (λ e. e.depot < max_depots) es) (sym c.as_slice.ensures.list)
     (gathered_depots (site r) (view r) c.requires.gathers r.kept)
 
 pub invariant_of-self-clause-room : goal.invariant_of-self-clause-room

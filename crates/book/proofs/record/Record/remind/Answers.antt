@@ -1,5 +1,5 @@
 use Rattle.std.proofs.Common.{◌≡◌, ℕ, ◌<◌, List, [], sym, refl, ap, ◌∙◌, subst, ap₂, arith}
-use Rattle.std.specs.List.{AllByRecursion as All}
+use Rattle.std.specs.List.{AllByRecursion}
 use Rattle.std.proofs.lemmas.Bool.Decides.{nat_tests}
 use Rattle.entries.specs.Limits.{max_depots}
 use Rattle.entries.specs.Lists.{names}
@@ -16,7 +16,7 @@ use Rattle.book.proofs.record.Record.remind.Goals as goal
 pub names_of-requires : goal.names_of-requires
 names_of-requires c =
     let r = c.args.self.now in
-    subst (λ es. All (λ e. e.depot < max_depots) es) (sym c.as_slice.ensures.list)
+    subst (λ es. AllByRecursion (λ e. e.depot < max_depots) es) (sym c.as_slice.ensures.list)
     (gathered_depots (site r) (view r) (omega arith) r.kept)
 
 pub again-requires : goal.again-requires
@@ -40,7 +40,7 @@ returns-in-1 c =
 pub names_of-requires-in-2 : goal.names_of-requires-in-2
 names_of-requires-in-2 c =
     let r = c.args.self.now in
-    subst (λ es. All (λ e. e.depot < max_depots) es) (sym c.as_slice-in-2.ensures.list)
+    subst (λ es. AllByRecursion (λ e. e.depot < max_depots) es) (sym c.as_slice-in-2.ensures.list)
     (list_depots (site r) (view r) r.identity.depot (omega arith) r.kept)
 
 pub list_again-requires : goal.list_again-requires
