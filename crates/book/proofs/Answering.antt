@@ -1,6 +1,6 @@
 -- Answers of calls from the outcome that the definitions name: refused with nothing changed, or served.
 use Rattle.std.proofs.Common.{◌≡◌, Ok, Err, sym, refl, ap, ◌∙◌, subst}
-use mathlib.Core.Option.{Option, none, some}
+use mathlib.Core.Option.{Option, none}
 use Rattle.letters.specs.declared.message.Message.{Message}
 use Rattle.letters.specs.Contents.{Contents}
 use Rattle.letters.specs.Reading as reading

@@ -1,6 +1,6 @@
 -- Gathering an entry: insertion takes it, since its depot is not there and the pool stays within the limit, and since
 -- the record that it leads to is lawful there is room for it.
-use Rattle.std.proofs.Common.{◌≡◌, ℕ, ◌+◌, ◌<◌, ◌≤◌, true, false, cond, not, ◌&&◌, leb, List, [], ◌∷◌, length, take, drop, is_ok, Result, sym, ap, ◌∙◌, subst, inl, inr, arith}
+use Rattle.std.proofs.Common.{◌≡◌, ◌+◌, ◌<◌, ◌≤◌, true, cond, not, [], ◌∷◌, length, drop, is_ok, Result, sym, ap, ◌∙◌, subst, inl, inr, arith}
 use mathlib.Core.Logic.{∥∥₁_elim}
 use denote.Struct.Props.{props}
 use Rattle.std.proofs.lemmas.List.{length-append, length-drop, length-take-le}
@@ -8,8 +8,8 @@ use Rattle.std.proofs.lemmas.Bool.{cases_eq, and_parts, not-true}
 use Rattle.entries.specs.declared.lists.Entry.{Entry}
 use Rattle.entries.specs.declared.lists.Entries.{Entries}
 use Rattle.entries.specs.declared.filling.InsertRefusal.{InsertRefusal}
-use Rattle.entries.specs.Limits.{max_depots, max_pool}
-use Rattle.entries.specs.Lists.{list_of, pool, on, insert}
+use Rattle.entries.specs.Limits.{max_depots}
+use Rattle.entries.specs.Lists.{list_of, on, insert}
 use Rattle.entries.specs.Filling.{grown, Inserted}
 use Rattle.entries.proofs.Rising.{rising_short}
 use Rattle.entries.proofs.Insertion.{insert_length, is_taken}

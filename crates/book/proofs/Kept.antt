@@ -1,14 +1,14 @@
 -- The law in a record's type: a state that a call of the protocol leads to keeps it, since the protocol's calls do, and
 -- so does the state after each step that the calls are made of.
-use Rattle.std.proofs.Common.{◌≡◌, ℕ, zero, suc, ◌+◌, ◌<◌, ◌≤◌, true, ◌⊎◌, List, [], ◌∷◌, length, get_or, set, replicate, sym, refl, ap, ◌∙◌, subst, inl, inr, arith}
+use Rattle.std.proofs.Common.{◌≡◌, ℕ, zero, suc, ◌<◌, ◌≤◌, List, length, get_or, set, replicate, sym, refl, ap, ◌∙◌, subst, inl, inr, arith}
 use mathlib.Core.Path.{fun_ext}
 use mathlib.Core.Logic.{∥∥₁_elim, ∥∥₁_map}
 use denote.Struct.Props.{props}
 use Rattle.std.proofs.lemmas.List.{get_or-set_same, get_or-set_other}
 use Rattle.policies.specs.Shares.{level}
 use Rattle.policies.specs.Dealt.{level_lawful}
-use Rattle.protocol.specs.Policy.{Policy, LawfulPolicy}
-use Rattle.protocol.specs.State.{upd, Site, Row, State}
+use Rattle.protocol.specs.Policy.{Policy}
+use Rattle.protocol.specs.State.{upd, Site, State}
 use Rattle.protocol.specs.Outcome.{Outcome, after}
 use Rattle.protocol.specs.Law.{Law}
 use Rattle.protocol.specs.Keeping.{Keeps, CallsKeep}

@@ -1,6 +1,6 @@
 -- Letters that a record sends: a letter to nobody is none, any other is what the lent message then says, and each is
 -- lawful since the record is.
-use Rattle.std.proofs.Common.{◌≡◌, ℕ, eqb, List, sym, refl, ap, ◌∙◌, subst}
+use Rattle.std.proofs.Common.{◌≡◌, ℕ, List, sym, refl, subst}
 use mathlib.Core.Logic.{∥∥₁_map}
 use mathlib.Core.Option.{Option, none, some}
 use Rattle.std.proofs.lemmas.Bool.{eq-eqb, ne_eqb}

@@ -5,9 +5,7 @@ use mathlib.Core.Logic.{∥∥₁_elim, ∥∥₁_map}
 use mathlib.Core.Option.{Option, none, some}
 use native.Mathlib.Bridge.{le_prop}
 use denote.Struct.Props.{props}
-use Rattle.std.specs.List.{AllByRecursion}
 use Rattle.entries.specs.declared.lists.Entry.{Entry}
-use Rattle.entries.specs.Lists.{Listed}
 use Rattle.entries.proofs.Known.{all_plain, listed_known}
 use Rattle.letters.specs.Contents.{Contents, LawfulEntry, Offered, Carries, Lawful, offer_kind, list_kind}
 use Rattle.protocol.specs.Keeping.{Readable}

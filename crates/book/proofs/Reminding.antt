@@ -13,7 +13,7 @@ use Rattle.letters.specs.declared.letter.Kind.{Kind}
 use Rattle.letters.specs.declared.letter.Kind.TheVariants as kinds
 use Rattle.letters.specs.declared.message.Message.{Message}
 use Rattle.protocol.specs.State.{pick, Site, State, rest}
-use Rattle.protocol.specs.Outcome.{Outcome, refuses, serves, after, sends, mail, note}
+use Rattle.protocol.specs.Outcome.{Outcome, refuses, serves, after, sends, mail}
 use Rattle.protocol.specs.Law.{Law}
 use Rattle.protocol.specs.Keeping.{Readable}
 use Rattle.protocol.specs.Own.{again, remind}

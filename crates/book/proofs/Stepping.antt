@@ -1,8 +1,8 @@
 -- Steps that are served: since the outcome keeps the law, so does the record that it names, and the letter that it
 -- names can be read; and what the steps that may conclude a handover come to.
-use Rattle.std.proofs.Common.{◌≡◌, ℕ, Bool, true, false, List, [], Ok, sym, refl, ap, ◌∙◌, subst}
+use Rattle.std.proofs.Common.{◌≡◌, ℕ, true, false, List, [], Ok, sym, refl, subst}
 use mathlib.Core.Logic.{∥∥₁_map}
-use mathlib.Core.Option.{Option, none, some}
+use mathlib.Core.Option.{Option, none}
 use Rattle.entries.specs.declared.lists.Entry.{Entry}
 use Rattle.entries.specs.Sets.{has, mark, add}
 use Rattle.letters.specs.declared.letter.Head.{Head}

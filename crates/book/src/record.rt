@@ -13,7 +13,6 @@ mod handing;
 mod leading;
 mod leaving;
 mod mailing;
-mod receiving;
 mod rows;
 mod stepping;
 mod stock;

@@ -1,4 +1,4 @@
-use Rattle.std.proofs.Common.{◌≡◌, ℕ, ◌<◌, false, ◌⊎◌, List, length, set, Ok, sym, refl, ap, ◌∙◌, subst, ap₂, inl, inr, arith, length-set}
+use Rattle.std.proofs.Common.{◌≡◌, ℕ, false, List, set, Ok, sym, refl, ◌∙◌, subst, ap₂, inl, inr, arith, length-set}
 use Rattle.std.proofs.lemmas.List.{get_or-set_other}
 use Rattle.std.proofs.lemmas.Bool.{both_ways}
 use Rattle.entries.specs.Sets.{has, add}
@@ -36,7 +36,7 @@ invariant_of-self c =
       whole = (omega arith, length-set _ _ _ ∙ d.whole.1);
       blank =
           λ i h. blank_still of d.allotted.0 k c.args.pieces d.blank i
-              (subst (λ x. has x i ≡ false) c.with-self.ensures h);
+          (subst (λ x. has x i ≡ false) c.with-self.ensures h);
     }
 
 pub returns-then-depot-self : goal.returns-then-depot-self

@@ -1,4 +1,4 @@
-use Rattle.std.proofs.Common.{◌≡◌, ℕ, sym, ap₂, arith}
+use Rattle.std.proofs.Common.{ℕ, sym, ap₂, arith}
 use Rattle.entries.proofs.Width.{as_many_marks}
 use Rattle.protocol.specs.Opening.{Draft}
 use Rattle.book.specs.declared.opening.Plan.{Plan}

@@ -1,4 +1,4 @@
-use Rattle.std.proofs.Common.{◌≡◌, ℕ, ◌+◌, length, refl, ap, ◌∙◌, arith, length-set}
+use Rattle.std.proofs.Common.{◌≡◌, ℕ, ◌+◌, refl, ap, ◌∙◌, arith, length-set}
 use Rattle.entries.proofs.Width.{as_many_marks}
 use Rattle.protocol.specs.State.{upd}
 use Rattle.protocol.specs.Opening.{Opening, remains}

@@ -1,4 +1,4 @@
-use Rattle.std.proofs.Common.{◌≡◌, length, sym, refl, ap, ◌∙◌, arith}
+use Rattle.std.proofs.Common.{sym, refl, ap, ◌∙◌, arith}
 use mathlib.Core.Option.{none}
 use Rattle.entries.specs.Sets.{has}
 use Rattle.protocol.specs.Outcome.{serves}

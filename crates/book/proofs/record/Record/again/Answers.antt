@@ -1,6 +1,5 @@
-use Rattle.std.proofs.Common.{◌≡◌, [], sym, ◌∙◌}
+use Rattle.std.proofs.Common.{[], sym, ◌∙◌}
 use Rattle.std.proofs.lemmas.Bool.{eqb-true, eqb-false}
-use Rattle.letters.specs.declared.letter.Kind.TheVariants as kinds
 use Rattle.book.specs.View.{site, view}
 use Rattle.book.proofs.Answering.{answer_refused, answer_served}
 use Rattle.book.proofs.Reminding.{again_refuses, again_serves}

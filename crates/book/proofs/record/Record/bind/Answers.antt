@@ -1,7 +1,7 @@
-use Rattle.std.proofs.Common.{◌≡◌, refl, ap, ◌∙◌, arith, length-set}
+use Rattle.std.proofs.Common.{refl, ap, ◌∙◌, arith, length-set}
 use Rattle.entries.specs.Sets.{add}
 use Rattle.book.specs.Fields.{rows_of}
-use Rattle.book.specs.View.{site, view}
+use Rattle.book.specs.View.{site}
 use Rattle.book.proofs.Kept.{row_set, written_kept}
 use Rattle.book.proofs.Written.{state_is}
 use Rattle.book.proofs.record.Record.bind.Goals as goal
@@ -18,7 +18,7 @@ invariant_of-self-clause-kept c =
     let l = c.args.leader in
     let h = c.with-self.ensures ∙ ap (λ m. add m l) c.mark.ensures in
     written_kept (site r) _ _ (state_is _ _ _ (row_set r.rows.of l _ (omega arith)) refl h refl refl)
-        c.requires.lawful
+    c.requires.lawful
 
 pub returns : goal.returns
 unfolding rows_of

@@ -1,10 +1,5 @@
-use Rattle.std.proofs.Common.{◌≡◌, ◌&&◌, ltb, sym, ap, ◌∙◌, arith}
+use Rattle.std.proofs.Common.{arith}
 use Rattle.std.proofs.lemmas.Bool.Decides.{nat_tests}
-use Rattle.entries.specs.Sets.{covers, everyone}
-use Rattle.entries.specs.Lists.{names}
-use Rattle.protocol.specs.Listing.{every}
-use Rattle.protocol.specs.State.{fits}
-use Rattle.book.specs.View.{site, view}
 use Rattle.book.proofs.Covering.{everyone_every}
 use Rattle.book.proofs.record.Record.can_accept.Goals as goal
 

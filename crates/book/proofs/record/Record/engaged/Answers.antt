@@ -1,4 +1,4 @@
-use Rattle.std.proofs.Common.{◌≡◌, ◌⊎◌, refl, ap, ◌∙◌, inl, inr, arith}
+use Rattle.std.proofs.Common.{◌≡◌, refl, ap, ◌∙◌, inl, inr, arith}
 use Rattle.protocol.specs.State.{any, engages, engaged}
 use Rattle.book.proofs.Searched.{any_more}
 use Rattle.book.proofs.record.Record.engaged.Goals as goal

@@ -1,6 +1,6 @@
-use Rattle.std.proofs.Common.{◌≡◌, refl, ap, ◌∙◌, arith, length-set}
+use Rattle.std.proofs.Common.{refl, ◌∙◌, arith, length-set}
 use Rattle.book.specs.Fields.{rows_of}
-use Rattle.book.specs.View.{site, view}
+use Rattle.book.specs.View.{site}
 use Rattle.book.proofs.Kept.{row_set, bounds_of, written_kept}
 use Rattle.book.proofs.Written.{state_is}
 use Rattle.book.proofs.record.Record.finish.Goals as goal
@@ -21,8 +21,8 @@ unfolding rows_of
 invariant_of-self-clause-kept c =
     let r = c.args.self.now in
     written_kept (site r) _ _
-        (state_is _ _ _ (row_set r.rows.of c.args.leader _ (omega arith)) refl c.none-self.ensures refl
-        refl) c.requires.lawful
+    (state_is _ _ _ (row_set r.rows.of c.args.leader _ (omega arith)) refl c.none-self.ensures refl
+    refl) c.requires.lawful
 
 pub returns : goal.returns
 unfolding rows_of

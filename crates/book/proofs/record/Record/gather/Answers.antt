@@ -1,4 +1,4 @@
-use Rattle.std.proofs.Common.{◌≡◌, refl, ap}
+use Rattle.std.proofs.Common.{refl, ap}
 use Rattle.protocol.specs.State.{gathers}
 use Rattle.book.specs.View.{site, view}
 use Rattle.book.proofs.Kept.{written_kept}

@@ -1,7 +1,6 @@
-use Rattle.std.proofs.Common.{sym, refl, ap, arith}
+use Rattle.std.proofs.Common.{refl, arith}
 use Rattle.std.proofs.lemmas.Bool.Decides.{nat_tests}
 use Rattle.protocol.specs.State.{pick}
-use Rattle.protocol.specs.Outcome.{after}
 use Rattle.protocol.specs.Own.{outside, give_back}
 use Rattle.book.specs.View.{site, view}
 use Rattle.book.proofs.Kept.{kept, own_calls}
@@ -13,14 +12,14 @@ unfolding give_back outside pick
 invariant_of-self-clause-kept c =
     let r = c.args.self.now in
     kept (site r) (view r) _ (give_back (site r) (view r) c.args.n)
-        (λ law. (own_calls (site r) (view r) law).give_back c.args.n) (grind (arith, nat_tests)) r.kept
+    (λ law. (own_calls (site r) (view r) law).give_back c.args.n) (grind (arith, nat_tests)) r.kept
 
 pub invariant_of-self-else-engaged-clause-kept : goal.invariant_of-self-else-engaged-clause-kept
 unfolding give_back outside pick
 invariant_of-self-else-engaged-clause-kept c =
     let r = c.args.self.now in
     kept (site r) (view r) _ (give_back (site r) (view r) c.args.n)
-        (λ law. (own_calls (site r) (view r) law).give_back c.args.n) (grind (arith, nat_tests)) r.kept
+    (λ law. (own_calls (site r) (view r) law).give_back c.args.n) (grind (arith, nat_tests)) r.kept
 
 pub returns-then-n-lt1 : goal.returns-then-n-lt1
 unfolding give_back outside pick

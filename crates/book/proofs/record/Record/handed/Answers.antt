@@ -1,11 +1,10 @@
-use Rattle.std.proofs.Common.{◌≡◌, ℕ, ◌≤◌, List, [], length, sym, refl, ap, ◌∙◌, subst, arith}
+use Rattle.std.proofs.Common.{◌≡◌, ◌≤◌, [], length, sym, refl, ap, ◌∙◌, subst, arith}
 use lib.ListN.{length-replicate}
 use Rattle.entries.specs.declared.lists.Entries.{Entries}
 use Rattle.entries.specs.Limits.{max_depots}
 use Rattle.entries.specs.Lists.{list_of}
 use Rattle.entries.specs.Filling.{empty_place}
 use Rattle.entries.proofs.Width.{as_many_marks}
-use Rattle.protocol.specs.State.{State, fresh}
 use Rattle.protocol.specs.Law.{Law}
 use Rattle.protocol.proofs.LawKept.{law_kept}
 use Rattle.book.specs.Fields.{site_of}

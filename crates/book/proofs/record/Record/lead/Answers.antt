@@ -1,4 +1,4 @@
-use Rattle.std.proofs.Common.{◌≡◌, ◌+◌, [], ◌∷◌, get_or, sym, refl, ap, ◌∙◌, arith, length-set}
+use Rattle.std.proofs.Common.{◌+◌, [], ◌∷◌, get_or, sym, refl, ap, ◌∙◌, arith, length-set}
 use Rattle.std.proofs.lemmas.Bool.Decides.{nat_tests}
 use Rattle.entries.proofs.Width.{as_many_marks}
 use Rattle.letters.specs.declared.letter.Kind.TheVariants as kinds
@@ -65,7 +65,7 @@ invariant_of-self-clause-kept c =
     ∙ ap (λ x. x ∷ []) c.own_entry-own.ensures)
     (refl {a = (view r).owing}) in
     kept (site r) (view r) _ (lead (site r) (view r)) (λ law. (own_calls (site r) (view r) law).lead)
-        (e ∙ sym (ap (after (view r)) q)) r.kept
+    (e ∙ sym (ap (after (view r)) q)) r.kept
 
 pub say-requires : goal.say-requires
 unfolding rows_of next

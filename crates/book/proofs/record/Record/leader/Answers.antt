@@ -1,4 +1,4 @@
-use Rattle.std.proofs.Common.{◌≡◌, ◌⊎◌, refl, ap, ◌∙◌, inl, inr, arith}
+use Rattle.std.proofs.Common.{◌≡◌, refl, ap, ◌∙◌, inl, inr, arith}
 use Rattle.protocol.specs.State.{found, engages, leader}
 use Rattle.book.proofs.Searched.{found_more}
 use Rattle.book.proofs.record.Record.leader.Goals as goal

@@ -1,4 +1,4 @@
-use Rattle.std.proofs.Common.{◌<◌, arith}
+use Rattle.std.proofs.Common.{arith}
 use Rattle.book.specs.View.{site, view}
 use Rattle.book.proofs.Listing.{gathered_below}
 use Rattle.book.proofs.record.Record.partner.Goals as goal

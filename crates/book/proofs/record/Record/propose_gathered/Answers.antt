@@ -1,4 +1,4 @@
-use Rattle.std.proofs.Common.{◌≡◌, ◌<◌, get_or, sym, refl, ap, ◌∙◌, subst, ap₂, arith, length-set}
+use Rattle.std.proofs.Common.{◌≡◌, ◌<◌, get_or, sym, refl, ap, ◌∙◌, subst, arith, length-set}
 use Rattle.std.specs.List.{AllByRecursion}
 use Rattle.entries.specs.Limits.{max_depots}
 use Rattle.entries.specs.Sets.{less, mark}
@@ -44,7 +44,7 @@ invariant_of-self-clause-kept c =
     let e = state_is r.shelf r.tray r.wish (row_set r.rows.of d (next r) (omega arith))
     (refl {a = (view r).gathered}) c.mark-self.ensures refl to in
     kept (site r) (view r) _ (propose (under (site r)) (site r) (view r)) (under_kept (site r) (view r))
-        (e ∙ sym (ap (after (view r)) q)) r.kept
+    (e ∙ sym (ap (after (view r)) q)) r.kept
 
 pub say_list-requires : goal.say_list-requires
 unfolding rows_of next

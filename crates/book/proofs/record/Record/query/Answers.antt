@@ -1,4 +1,4 @@
-use Rattle.std.proofs.Common.{◌≡◌, [], sym, refl, ap, ◌∙◌, arith}
+use Rattle.std.proofs.Common.{[], sym, refl, ap, ◌∙◌, arith}
 use Rattle.letters.specs.declared.letter.Kind.TheVariants as kinds
 use Rattle.protocol.specs.Outcome.{sends}
 use Rattle.protocol.specs.Own.{query}

@@ -22,7 +22,7 @@ invariant_of-self-clause-kept c =
     let h : c.with-self.result.0 ≡ pair (site r) l =
     c.with-self.ensures ∙ ap (λ m. add m l) c.mark.ensures in
     kept (site r) (view r) _ (restart (site r) (view r)) (λ law. (own_calls (site r) (view r) law).restart)
-        (ap (λ x. hears x (view r)) h ∙ sym (ap (after (view r)) q)) r.kept
+    (ap (λ x. hears x (view r)) h ∙ sym (ap (after (view r)) q)) r.kept
 
 pub returns-then-stands-eq2 : goal.returns-then-stands-eq2
 returns-then-stands-eq2 c =

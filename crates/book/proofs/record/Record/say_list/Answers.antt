@@ -1,9 +1,8 @@
-use Rattle.std.proofs.Common.{◌≡◌, [], ◌∷◌, sym, ap, ◌∙◌, subst, arith}
+use Rattle.std.proofs.Common.{sym, ap, ◌∙◌, subst, arith}
 use Rattle.std.proofs.lemmas.Bool.{eqb-true, eqb-false}
 use Rattle.letters.specs.declared.letter.Kind.TheVariants as kinds
 use Rattle.letters.specs.Contents.{Lawful}
 use Rattle.letters.specs.Code.{kind_number, says}
-use Rattle.protocol.specs.State.{own}
 use Rattle.book.specs.View.{site, view}
 use Rattle.book.proofs.Mailing.{posted_none, posted_some, note_lawful}
 use Rattle.book.proofs.record.Record.say_list.Goals as goal

@@ -1,7 +1,6 @@
-use Rattle.std.proofs.Common.{sym, refl, ap, arith}
+use Rattle.std.proofs.Common.{refl, arith}
 use Rattle.std.proofs.lemmas.Bool.Decides.{nat_tests}
 use Rattle.protocol.specs.State.{pick}
-use Rattle.protocol.specs.Outcome.{after}
 use Rattle.protocol.specs.Own.{set_wish}
 use Rattle.book.specs.View.{site, view}
 use Rattle.book.proofs.Kept.{kept, own_calls}
@@ -13,7 +12,7 @@ unfolding set_wish pick
 invariant_of-self-clause-kept c =
     let r = c.args.self.now in
     kept (site r) (view r) _ (set_wish (site r) (view r) c.args.n)
-        (λ law. (own_calls (site r) (view r) law).set_wish c.args.n) (grind (arith, nat_tests)) r.kept
+    (λ law. (own_calls (site r) (view r) law).set_wish c.args.n) (grind (arith, nat_tests)) r.kept
 
 pub returns-then-n-gt-MAX_WISH : goal.returns-then-n-gt-MAX_WISH
 unfolding set_wish pick

@@ -1,4 +1,4 @@
-use Rattle.std.proofs.Common.{◌≡◌, true, sym, refl, ap, ◌∙◌}
+use Rattle.std.proofs.Common.{true, refl, ap}
 use Rattle.entries.specs.Sets.{less, mark}
 use Rattle.protocol.specs.State.{pick, owed}
 use Rattle.protocol.proofs.RowSet.{owed_law}
@@ -10,8 +10,8 @@ pub invariant_of-self-clause-kept : goal.invariant_of-self-clause-kept
 invariant_of-self-clause-kept c =
     let r = c.args.self.now in
     lawful_now (site r) (view r) _ (owed (less r.owing.0 (mark c.args.sender)) (view r))
-        (λ law. owed_law (site r) (view r) true c.args.sender law)
-        (ap (λ x. owed x (view r)) c.without-self.ensures) r.kept
+    (λ law. owed_law (site r) (view r) true c.args.sender law)
+    (ap (λ x. owed x (view r)) c.without-self.ensures) r.kept
 
 pub returns-then-strikes : goal.returns-then-strikes
 unfolding pick

@@ -1,6 +1,6 @@
 use Rattle.std.proofs.Common.{◌≡◌, [], sym, ap, ◌∙◌, arith}
 use Rattle.letters.specs.declared.letter.Kind.TheVariants as kinds
-use Rattle.protocol.specs.State.{Site, rest}
+use Rattle.protocol.specs.State.{rest}
 use Rattle.protocol.specs.Outcome.{sends}
 use Rattle.protocol.specs.Own.{withdraw}
 use Rattle.book.specs.View.{site, view}
