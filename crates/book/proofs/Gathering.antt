@@ -1,10 +1,10 @@
 -- Gathering an entry: insertion takes it, since its depot is not there and the pool stays within the limit, and since
 -- the record that it leads to is lawful there is room for it.
-use Rattle.std.proofs.Common.{◌≡◌, ◌+◌, ◌<◌, ◌≤◌, true, cond, not, [], ◌∷◌, length, drop, is_ok, Result, sym, ap, ◌∙◌, subst, inl, inr, arith}
+use Rattle.std.proofs.Common.{◌≡◌, ℕ, zero, suc, ◌+◌, ◌<◌, ◌≤◌, true, cond, not, List, [], ◌∷◌, length, get_or, take, drop, is_ok, Result, sym, refl, ap, ◌∙◌, subst, inl, inr, arith}
 use mathlib.Core.Logic.{∥∥₁_elim}
 use denote.Struct.Props.{props}
 use Rattle.std.proofs.lemmas.List.{length-append, length-drop, length-take-le}
-use Rattle.std.proofs.lemmas.Bool.{cases_eq, and_parts, not-true}
+use Rattle.std.proofs.lemmas.Bool.{cases_eq, and_parts, not-true, false≢true}
 use Rattle.entries.specs.declared.lists.Entry.{Entry}
 use Rattle.entries.specs.declared.lists.Entries.{Entries}
 use Rattle.entries.specs.declared.filling.InsertRefusal.{InsertRefusal}
@@ -15,7 +15,7 @@ use Rattle.entries.proofs.Rising.{rising_short}
 use Rattle.entries.proofs.Insertion.{insert_length, is_taken}
 use Rattle.protocol.specs.State.{Site, State, gathers}
 use Rattle.protocol.specs.Law.{Law}
-use Rattle.protocol.specs.Steps.{fits_gathered}
+use Rattle.protocol.specs.Steps.{fits_gathered, gathered_with}
 use Rattle.book.specs.Calls.{PlaceFits}
 
 -- a lawful record has gathered no more entries than there can be depots
@@ -68,3 +68,29 @@ module _ (a : Site) (s : State) (e : Entry) (before after : Entries) (r : Result
           let room = room_left in
           let c = counted in
           (omega arith, omega arith)
+
+-- the entry that an Offer carries is the first in its place
+first_fits : (gathered : List Entry) (z : Entry) (n : ℕ) (items : List Entry)
+    → fits_gathered gathered (take n items) ≡ true → fits_gathered gathered (get_or items 0 z ∷ []) ≡ true
+first_fits gathered z zero items h = absurd (false≢true h)
+first_fits gathered z (suc n) [] h = absurd (false≢true h)
+first_fits gathered z (suc n) (e ∷ es) h = h
+
+-- and it is the entry that is gathered
+first_gathered : (gathered : List Entry) (z : Entry) (n : ℕ) (items : List Entry)
+    → fits_gathered gathered (take n items) ≡ true
+    → gathered_with gathered (take n items) ≡ insert (get_or items 0 z) gathered
+first_gathered gathered z zero items h = absurd (false≢true h)
+first_gathered gathered z (suc n) [] h = absurd (false≢true h)
+first_gathered gathered z (suc n) (e ∷ es) h = refl
+
+-- the same at a place: its first entry fits
+pub offered_fits : (gathered : List Entry) (z : Entry) (place : Entries)
+    → fits_gathered gathered (list_of place) ≡ true → fits_gathered gathered (get_or place.items 0 z ∷ []) ≡ true
+offered_fits gathered z place h = first_fits gathered z place.count place.items h
+
+-- and its first entry is gathered
+pub offered_gathered : (gathered : List Entry) (z : Entry) (place : Entries)
+    → fits_gathered gathered (list_of place) ≡ true
+    → gathered_with gathered (list_of place) ≡ insert (get_or place.items 0 z) gathered
+offered_gathered gathered z place h = first_gathered gathered z place.count place.items h

@@ -12,3 +12,5 @@ pub mod Reminding
 pub mod Gathering
 pub mod Covering
 pub mod Stepping
+pub mod Carrying
+pub mod Following

@@ -1,6 +1,6 @@
 -- Steps that are served: since the outcome keeps the law, so does the record that it names, and the letter that it
 -- names can be read; and what the steps that may conclude a handover come to.
-use Rattle.std.proofs.Common.{◌≡◌, ℕ, true, false, List, [], Ok, sym, refl, subst}
+use Rattle.std.proofs.Common.{◌≡◌, ℕ, Bool, true, false, List, [], Ok, sym, refl, ap, subst}
 use mathlib.Core.Logic.{∥∥₁_map}
 use mathlib.Core.Option.{Option, none}
 use Rattle.entries.specs.declared.lists.Entry.{Entry}
@@ -10,6 +10,7 @@ use Rattle.letters.specs.declared.letter.Kind.{Kind}
 use Rattle.letters.specs.declared.letter.Kind.TheVariants as kinds
 use Rattle.letters.specs.declared.message.Message.{Message}
 use Rattle.letters.specs.Contents.{Contents}
+use Rattle.protocol.specs.declared.step.Step.{Step}
 use Rattle.protocol.specs.declared.step.Step.TheVariants as steps
 use Rattle.protocol.specs.Policy.{Policy}
 use Rattle.protocol.specs.Listing.{every}
@@ -78,3 +79,14 @@ module _ (P : Policy) (head : Head) (es : List Entry) (a : Site) (s : State) whe
       → stepped P false head es steps.Hear a s ≡ serves (hears hearing s) none
   unfolding concluded pick
   hear_waits e = rw e refl
+
+-- the outcome of a step that is known
+pub step_is : (P : Policy) (b : Bool) (head : Head) (es : List Entry) (a : Site) (s : State) {x y : Step} → x ≡ y
+    → stepped P b head es x a s ≡ stepped P b head es y a s
+step_is P b head es a s e = ap (λ z. stepped P b head es z a s) e
+
+-- hearing looks at no entries
+pub hear_alone : (P : Policy) (b : Bool) (head : Head) (es : List Entry) (a : Site) (s : State)
+    → stepped P b head es steps.Hear a s ≡ stepped P false head [] steps.Hear a s
+unfolding concluded
+hear_alone P b head es a s = refl

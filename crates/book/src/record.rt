@@ -13,6 +13,7 @@ mod handing;
 mod leading;
 mod leaving;
 mod mailing;
+mod receiving;
 mod rows;
 mod stepping;
 mod stock;

@@ -28,7 +28,8 @@ fn entries_of(letter: Letter<'_>) -> Entries
     ensures placed { PlaceFits result }
 {
     match letter {
-        Letter::Offer(_, bytes) | Letter::List(_, bytes) => entries_in(bytes),
+        Letter::Offer(_, bytes) => entries_in(bytes),
+        Letter::List(_, bytes) => entries_in(bytes),
         _ => Entries::empty(),
     }
 }
@@ -190,7 +191,7 @@ impl Record {
     /// this depot (29), a sender or leader that the set does not have or the depot itself as sender (30), a number below
     /// that in the leader's row (31), one above it unless the letter is an Ask (32), a new Ask while the depot is
     /// engaged (8), a letter without a line (33).
-    pub fn receive<P: Policy>(
+    pub(crate) fn receive<P: Policy>(
         &mut self,
         bytes: &[u8],
         out: &mut Message,

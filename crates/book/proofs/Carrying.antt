@@ -1,0 +1,39 @@
+-- The entries that a letter carries: those of an Offer and of a List, which a place has room for, and none otherwise.
+use Rattle.std.proofs.Common.{◌≡◌, ℕ, ◌≤◌, true, List, [], length, take, refl, arith}
+use Rattle.std.proofs.lemmas.Bool.Decides.{nat_tests}
+use Rattle.std.proofs.lemmas.List.{take_all}
+use denote.Bor.{Bor}
+use Rattle.entries.specs.Limits.{max_depots}
+use Rattle.letters.specs.declared.letter.Head.{Head}
+use Rattle.letters.specs.declared.letter.Letter.{Letter}
+use Rattle.letters.specs.declared.letter.Letter.TheVariants as letters
+use Rattle.letters.specs.Contents.{Lawful}
+use Rattle.letters.specs.Reading.{count_fits, entries_in}
+use Rattle.letters.specs.Code.{letter_says, entry_part}
+use Rattle.letters.proofs.Carried.{carries_fits}
+
+-- so many entries fit into a place
+count_room : (kind n : ℕ) → count_fits kind n ≡ true → n ≤ max_depots
+unfolding max_depots
+count_room kind n h = grind (arith, nat_tests)
+
+-- a lawful letter's entries all have room
+pub all_taken : (l : Letter) → Lawful (letter_says l)
+    → take max_depots (entries_in (entry_part l)) ≡ entries_in (entry_part l)
+all_taken l law =
+    let m = letter_says l in
+    take_all max_depots m.entries
+    (count_room m.kind (length m.entries) (carries_fits m.kind m.sender m.entries law.carries).count)
+
+-- a letter that is neither an Offer nor a List has no bytes after its head
+pub no_part : (l : Letter) → ((h : Head) (bytes : Bor (List ℕ)) → l ≡ letters.Offer h bytes → ⊥)
+    → ((h : Head) (bytes : Bor (List ℕ)) → l ≡ letters.List h bytes → ⊥) → entry_part l ≡ []
+no_part (letters.Ask h) f g = refl
+no_part (letters.Offer h b) f g = absurd (f h b refl)
+no_part (letters.List h b) f g = absurd (g h b refl)
+no_part (letters.Yes h) f g = refl
+no_part (letters.No h) f g = refl
+no_part (letters.Settle h) f g = refl
+no_part (letters.Drop h) f g = refl
+no_part (letters.Query h) f g = refl
+no_part (letters.Done h) f g = refl

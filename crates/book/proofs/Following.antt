@@ -1,0 +1,204 @@
+-- Following a letter's line: the step that the code decided on is the one that the definitions name, it has what
+-- carrying it out relies on, and carrying it out at the record with the sender struck is what the line comes to.
+use Rattle.std.proofs.Common.{◌≡◌, ℕ, ◌≤◌, Bool, true, false, ◌&&◌, eqb, List, Result, sym, refl, ap, ◌∙◌, subst, ap₂, arith}
+use mathlib.Core.Logic.{∥∥₁_map}
+use mathlib.Core.Option.{Option, none}
+use Rattle.entries.specs.declared.lists.Entry.{Entry}
+use Rattle.entries.specs.Sets.{mark, less}
+use Rattle.letters.specs.declared.letter.Head.{Head}
+use Rattle.letters.specs.declared.letter.Kind.{Kind}
+use Rattle.letters.specs.declared.letter.Kind.TheVariants as kinds
+use Rattle.letters.specs.declared.message.Message.{Message}
+use Rattle.letters.specs.Contents.{Contents, Lawful}
+use Rattle.letters.specs.Reading.{Refusal as Refused}
+use Rattle.letters.specs.Code.{kind_number, says}
+use Rattle.letters.proofs.Carried.{lawful_listed}
+use Rattle.protocol.specs.declared.refusal.Refusal.{Refusal}
+use Rattle.protocol.specs.declared.step.Whom.{Whom}
+use Rattle.protocol.specs.declared.step.Step.{Step}
+use Rattle.protocol.specs.declared.step.Step.TheVariants as steps
+use Rattle.protocol.specs.declared.step.Situation.{Situation}
+use Rattle.protocol.specs.Policy.{Policy, LawfulPolicy}
+use Rattle.protocol.specs.Law.{Law}
+use Rattle.protocol.specs.Keeping.{Keeps}
+use Rattle.protocol.specs.State.{pick, Site, State, owed}
+use Rattle.protocol.specs.Outcome.{Outcome, refuses, serves, after}
+use Rattle.protocol.specs.Lines.{decided, Grounds}
+use Rattle.protocol.specs.Steps.{situation, concluded}
+use Rattle.protocol.specs.Taking.{kind_of, tells_end, strikes, struck, standing_in, step_for, take}
+use Rattle.protocol.proofs.Tests.{by}
+use Rattle.protocol.proofs.ByKind.{tells_how, by_kind, by_kind_lem}
+use Rattle.protocol.proofs.LawfulLists.{kind_back}
+use Rattle.protocol.proofs.LawKept.{law_kept}
+use Rattle.book.specs.declared.parts.Sent.{Sent}
+use Rattle.book.specs.declared.record.Record.{Record}
+use Rattle.book.specs.View.{site, view}
+use Rattle.book.specs.Calls.{told, at, stepped, lined, Sound, StepGrounds, Answered, Called}
+
+-- another step than Accept
+abbrev Other : Step → Type 0
+Other x = x ≡ steps.Accept → ⊥
+
+-- telling how a handover stands is another step
+other_told : (k : ℕ) (b : Bool) (to : Whom) → Other (tells_how k b to)
+other_told k b to =
+    by Other (λ _ q. cc) (λ _. by Other (λ _ q. cc) (λ _. by Other (λ _ q. cc) (λ _. by Other (λ _ q. cc) (λ _ q. cc))))
+
+-- only a List is accepted
+accepts_list : (c : Kind) (k : ℕ) (o : Situation) → by_kind c k o ≡ steps.Accept → c ≡ kinds.List
+accepts_list kinds.List k o q = refl
+accepts_list kinds.Ask k o q = absurd (by Other (λ _ q. cc) (λ _. by Other (λ _ q. cc) (λ _ q. cc)) q)
+accepts_list kinds.Offer k o q = absurd (by Other (λ _ q. cc) (λ _. by Other (λ _ q. cc) (λ _ q. cc)) q)
+accepts_list kinds.Yes k o q = absurd (by Other (λ _ q. cc) (λ _ q. cc) q)
+accepts_list kinds.No k o q = absurd (by Other (λ _ q. cc) (λ _ q. cc) q)
+accepts_list kinds.Settle k o q =
+    absurd (by Other (λ _ q. cc) (λ _. by Other (λ _ q. cc) (λ _. by Other (λ _ q. cc) (λ _ q. cc))) q)
+accepts_list kinds.Drop k o q =
+    absurd (by Other (λ _ q. cc) (λ _. by Other (λ _ q. cc) (λ _. by Other (λ _ q. cc)
+    (λ _. by Other (λ _ q. cc) (λ _. by Other (λ _ q. cc) (λ _ q. cc))))) q)
+accepts_list kinds.Query k o q = absurd (by Other (λ _ q. cc) (λ _. other_told k true _) q)
+accepts_list kinds.Done k o q = absurd (let f : Other steps.Unlined = λ q. cc in f q)
+
+-- a standing other than 0 in a letter's handover is that in the leader's row
+past_new : (b : Bool) (x j : ℕ) → 1 ≤ j → pick b 0 x ≡ j → x ≡ j
+unfolding pick
+past_new true x j h q = absurd (omega arith)
+past_new false x j h q = q
+
+-- an outcome that keeps the law at one record keeps it at another lawful one
+keeps_at : (a : Site) (s t : State) (o : Outcome) → ∥ Law a t ∥₁ → ∥ Keeps a s o ∥₁ → ∥ Keeps a t o ∥₁
+keeps_at a s t (refuses e) law ok = ∥∥₁_map law (λ l. record { law = l; mails = tt })
+keeps_at a s t (serves u m) law ok = ∥∥₁_map ok (λ k. record { law = k.law; mails = k.mails })
+
+-- a step leaves the same, whichever of two records a refusal would leave: it is refused only where it does not strike
+module _ (u u' : State) where
+  -- either of two served outcomes
+  one_after : (b : Bool) (t t' : State) (m m' : Option Contents)
+      → after u (pick b (serves t m) (serves t' m')) ≡ after u' (pick b (serves t m) (serves t' m'))
+  unfolding pick
+  one_after true t t' m m' = refl
+  one_after false t t' m m' = refl
+
+  -- a letter without a line
+  strike_after : (b : Bool) (t : State) (e : Refused) → (b ≡ false → u ≡ u')
+      → after u (pick b (serves t none) (refuses e)) ≡ after u' (pick b (serves t none) (refuses e))
+  unfolding pick
+  strike_after true t e f = refl
+  strike_after false t e f = f refl
+
+-- any step
+after_same : (P : Policy) (b : Bool) (h : Head) (es : List Entry) (a : Site) (s : State) (x : Step) (u u' : State)
+    → (b ≡ false → u ≡ u') → after u (stepped P b h es x a s) ≡ after u' (stepped P b h es x a s)
+unfolding concluded
+after_same P b h es a s steps.Unlined u u' f = strike_after u u' b s _ f
+after_same P b h es a s steps.Stay u u' f = refl
+after_same P b h es a s steps.Join u u' f = refl
+after_same P b h es a s steps.OfferAgain u u' f = refl
+after_same P b h es a s steps.Gather u u' f = refl
+after_same P b h es a s steps.Accept u u' f = one_after u u' _ _ _ _ _
+after_same P b h es a s steps.Hear u u' f = one_after u u' _ _ _ _ _
+after_same P b h es a s (steps.Say k v) u u' f = refl
+after_same P b h es a s (steps.Refuse v) u u' f = refl
+after_same P b h es a s (steps.Settle k v) u u' f = refl
+after_same P b h es a s (steps.Drop k v) u u' f = refl
+
+-- a letter of a kind with a head and entries, at a record
+module _ (k : Kind) (h : Head) (es : List Entry) where
+  -- the letter
+  abbrev m : Contents
+  m = says (kind_number k) h es
+
+  -- its leader
+  abbrev L : ℕ
+  L = h.leader
+
+  -- whether it strikes its sender, as the code tests it
+  pub strikes_is : (a : Site) {t b : Bool} → t ≡ tells_end k → b ≡ (t && eqb h.leader a.depot) → b ≡ strikes a m
+  unfolding strikes
+  strikes_is a {t} {b} e f =
+      let q : tells_end (kind_of (kind_number k)) ≡ tells_end k = ap tells_end (kind_back k) in
+      f ∙ ap (λ x. x && eqb h.leader a.depot) (e ∙ sym q)
+
+  -- the step that it calls for, as the code decides it
+  pub step_now : (a : Site) (t : State) {n : ℕ} {about : Situation} {x : Step} → x ≡ decided k n about
+      → n ≡ standing_in t m → about ≡ situation a t L h.sender h.number es → x ≡ step_for a t m
+  unfolding step_for
+  step_now a t e f g =
+      e ∙ ap₂ (decided k) f g
+      ∙ ap (λ c. decided c (standing_in t m) (situation a t L h.sender h.number es)) (sym (kind_back k))
+
+  -- what the step may rely on
+  pub grounds_now : (a : Site) (t : State) {n : ℕ} {about : Situation} (x : Step) → Lawful m → x ≡ decided k n about
+      → Grounds x n about → n ≡ standing_in t m → about ≡ situation a t L h.sender h.number es
+      → StepGrounds es t L x
+  grounds_now a t steps.Unlined law e g f i = tt
+  grounds_now a t steps.Stay law e g f i = tt
+  grounds_now a t steps.Join law e g f i = tt
+  grounds_now a t steps.OfferAgain law e g f i = tt
+  grounds_now a t steps.Gather law e g f i = sym (ap (λ o. o.gatherable) i) ∙ g
+  grounds_now a t {n} {about} steps.Accept law e g f i =
+      let q = accepts_list k n about (sym (e ∙ by_kind_lem k n about)) in
+      ∣ lawful_listed m law (ap kind_number q) ∣₁
+  grounds_now a t steps.Hear law e g f i = past_new _ _ 2 (omega arith) (sym f ∙ g)
+  grounds_now a t (steps.Say c v) law e g f i = tt
+  grounds_now a t (steps.Refuse v) law e g f i = past_new _ _ 1 (omega arith) (sym f ∙ g)
+  grounds_now a t (steps.Settle c v) law e g f i = past_new _ _ 2 (omega arith) (sym f ∙ g)
+  grounds_now a t (steps.Drop c v) law e g f i = past_new _ _ 2 (omega arith) (sym f ∙ g)
+
+  module _ (P : Policy) (r r' : Record) {b : Bool} {x : Step} (same : site r' ≡ site r) (e : b ≡ strikes (site r) m)
+      (now : view r' ≡ owed (pick b (less (view r).owing (mark h.sender)) (view r).owing) (view r))
+      (f : x ≡ step_for (site r') (view r') m) where
+    -- the record is the one that the letter leaves with its sender struck
+    struck_now : view r' ≡ struck (site r) (view r) m
+    struck_now = now ∙ ap (λ z. owed (pick z (less (view r).owing (mark h.sender)) (view r).owing) (view r)) e
+
+    -- the step at the record with the sender struck comes to what the line comes to
+    line_is : at (stepped P b h es x) r' ≡ at (lined P m) r
+    line_is =
+        ap (λ z. stepped P b h es z (site r') (view r')) f
+        ∙ ap (λ z. stepped P b h es (step_for z (view r') m) z (view r')) same
+        ∙ ap (λ z. stepped P b h es (step_for (site r) z m) (site r) z) struck_now
+        ∙ ap (λ z. stepped P z h es (step_for (site r) (struck (site r) (view r) m) m) (site r)
+        (struck (site r) (view r) m)) e
+
+    -- a letter that does not strike leaves the record as it was
+    unstruck : b ≡ false → view r' ≡ view r
+    unfolding pick
+    unstruck q = now ∙ rw q refl
+
+    -- carrying it out keeps the law and sends what can be read, since the line does
+    pub sound_now : Sound (lined P m) r → Sound (stepped P b h es x) r'
+    sound_now ok =
+        subst (λ o. ∥ Keeps (site r') (view r') o ∥₁) (sym line_is)
+        (subst (λ z. ∥ Keeps z (view r') (at (lined P m) r) ∥₁) (sym same)
+        (keeps_at (site r) (view r) (view r') (at (lined P m) r)
+        (subst (λ z. ∥ Law z (view r') ∥₁) same r'.kept) ok))
+
+    -- and answers and leaves what the line does
+    pub called_now : {res : Result Sent Refusal} {t : Record} {lent left : Message}
+        → Called (stepped P b h es x) res r' t lent left → Called (lined P m) res r t lent left
+    called_now {res} {t} {lent} {left} c =
+        record {
+          answer = subst (λ o. Answered told o res lent left) line_is c.answer;
+          leaves = record {
+            state =
+                c.leaves.state
+                ∙ after_same P b h es (site r') (view r') x (view r') (view r) unstruck
+                ∙ ap (after (view r)) line_is;
+            same = c.leaves.same ∙ same;
+          };
+        }
+
+-- the same letter from an equal kind, head and entries
+pub says_is : {k k' : Kind} {h h' : Head} {es es' : List Entry} → k ≡ k' → h ≡ h' → es ≡ es'
+    → says (kind_number k) h es ≡ says (kind_number k') h' es'
+says_is {k' = k'} {h = h} {h' = h'} {es = es} e f g =
+    ap (λ z. says (kind_number z) h es) e ∙ ap (λ z. says (kind_number k') z es) f
+    ∙ ap (λ z. says (kind_number k') h' z) g
+
+-- a letter that no refusal before the lines keeps out: its line keeps the law, since taking it does
+pub line_sound : (P : Policy) → LawfulPolicy P → (r : Record) (m : Contents) → Lawful m
+    → at (λ a s. take P a s m) r ≡ at (lined P m) r → Sound (lined P m) r
+line_sound P lawful r m ok q =
+    subst (λ o. ∥ Keeps (site r) (view r) o ∥₁) q
+    (∥∥₁_map r.kept (λ law. (law_kept.calls P lawful (site r) (view r) law).take m ok))
