@@ -9,17 +9,15 @@ rt=${RT:-rt}
 copy=$(mktemp -d)
 trap 'rm -rf "$copy"' EXIT
 
-cp -R "$root/crates" "$root/crates.txt" "$copy"
-if [ -d "$root/target" ]; then
-    cp -R "$root/target" "$copy"
-fi
+# What earlier checks left stays behind.
+tar -C "$root" --exclude=out -cf - crates crates.txt | tar -C "$copy" -xf -
 
 # A crate NAME with one function over a draft, whose body is given.
 write_crate() {
     mkdir -p "$copy/crates/$1/src"
     {
-        printf '%s\n' 'use book::Draft;' 'use book::Plan;' 'use book::Record;'
-        printf '%s\n' 'use policies::Level;' 'use policies::LevelPolicy;' 'use protocol::Refusal;' ''
+        printf '%s\n' '// What can be done with a set of two depots.' '#![tactic(auto)]' ''
+        printf '%s\n' 'use book::{Draft, Plan, Record};' 'use policies::Level;' 'use protocol::Refusal;' ''
         printf '%s\n' '/// The record of depot 0 in a set of two depots.'
         printf '%s\n' 'pub fn first_record() -> Result<Record, Refusal> {'
         printf '%s\n' '    let mut draft = Draft::new::<Level>(Plan::check(10, 2)?);'
@@ -34,7 +32,13 @@ write_crate allots_opened 'let mut set = draft.open();' 'set.allot(1, 4)?;' 'set
 write_crate hands_draft 'draft.allot(1, 4)?;' 'let record = draft.hand(0);' 'record'
 
 cd "$copy"
-if ! "$rt" check rightly_used > accepted.log 2>&1; then
+
+# Checks the crate NAME; what the check says goes into a file.
+check_crate() {
+    (cd "crates/$1" && "$rt" check) > "$2" 2>&1
+}
+
+if ! check_crate rightly_used accepted.log; then
     tail -n 20 accepted.log
     echo "misuse: the right use is not accepted"
     exit 1
@@ -44,7 +48,7 @@ echo "misuse: the right use is accepted"
 # The crate NAME must be refused, since there is no such call.
 must_refuse() {
     status=0
-    "$rt" check "$1" > refused.log 2>&1 || status=$?
+    check_crate "$1" refused.log || status=$?
     if [ "$status" -ne 1 ] || ! grep -qF "$2" refused.log; then
         tail -n 20 refused.log
         echo "misuse: $3 is not refused as it must be"
