@@ -1,5 +1,6 @@
-use Rattle.std.proofs.Common.{◌≡◌, ap, ◌∙◌, arith}
+use Rattle.std.proofs.Common.{◌≡◌, ◌<◌, ap, ◌∙◌, arith}
 use Rattle.std.proofs.lemmas.Bool.Decides.{nat_tests}
+use Rattle.entries.specs.Lists.{list_of}
 use Rattle.protocol.specs.Listing.{elsewhere}
 use Rattle.protocol.specs.State.{pick}
 use Rattle.protocol.specs.Own.{propose}
@@ -22,6 +23,7 @@ unfolding propose pick
 returns-then-covered-from g c =
     let r = c.args.self.now in
     let w = c.elsewhere-covered.ensures ∙ ap (elsewhere r.identity.depot) c.as_slice.ensures.list in
+    let too_few : elsewhere r.identity.depot (list_of r.gathered) < r.wish = omega arith in
     call_refused (grind (arith, nat_tests))
 
 pub propose_gathered-requires : goal.propose_gathered-requires
