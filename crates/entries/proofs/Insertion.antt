@@ -1,16 +1,16 @@
 -- What `insert` does to a list: one entry more, its pieces more in the pool, its depot more on the list, and a list
 -- begun stays one, since the new entry stands between a lower and a higher depot.
-use Rattle.std.proofs.Common.{◌≡◌, ℕ, ◌+◌, ◌<◌, ◌≤◌, Bool, true, false, ◌||◌, eqb, ltb, leb, List, [], ◌∷◌, length, drop, Ok, Err, sum_by, refl, ap, ◌∙◌, arith}
+use Rattle.std.proofs.Common.{◌≡◌, ℕ, ◌+◌, ◌<◌, ◌≤◌, Bool, true, false, ◌||◌, eqb, ltb, leb, List, [], ◌∷◌, length, Ok, Err, sum_by, sym, refl, ap, ◌∙◌, subst, arith}
 use Rattle.std.specs.List.{AllByRecursion}
-use Rattle.std.proofs.lemmas.List.{take_at, length-take-le}
 use Rattle.std.proofs.lemmas.List.Sums.{sum_by-cons}
-use Rattle.std.proofs.lemmas.Bool.{cond_both, ltb-true, ltb-false, lt-ltb, le-ltb, eqb-false, or_parts}
+use Rattle.std.proofs.lemmas.Bool.{cond_both, leb-true, ltb-true, ltb-false, lt-ltb, le-ltb, eqb-false, or_parts}
 use Rattle.entries.specs.declared.lists.Entry.{Entry}
-use Rattle.entries.specs.declared.lists.Entries.{Entries}
+use Rattle.entries.specs.declared.filling.InsertRefusal.{InsertRefusal}
 use Rattle.entries.specs.declared.filling.InsertRefusal.TheVariants.{Present, Full, PastLimit}
 use Rattle.entries.specs.Limits.{max_depots, max_wish, max_pool}
-use Rattle.entries.specs.Lists.{list_of, pool, RisesFrom, Begun, on, insert}
-use Rattle.entries.specs.Filling.{insertion, grown}
+use Rattle.entries.specs.Lists.{pool, RisesFrom, Begun, on, insert}
+use Rattle.entries.specs.Filling.{insertion, Inserted}
+use Rattle.entries.proofs.Width.{as_many_marks}
 
 -- a property of both ways in which `insert` goes on holds of `insert`
 by_order : (P : List Entry → Type 0) (e x : Entry) (xs : List Entry) → (e.depot < x.depot → P (e ∷ x ∷ xs))
@@ -92,14 +92,6 @@ insert_begun n e es absent within begun low wish = record {
   sum_within = omega (arith, insert_pool e es);
 }
 
--- what stands in the place once it has grown
-pub list_grown : (e : Entry) (place : Entries) → place.count < length place.items
-    → list_of (grown e place) ≡ insert e (list_of place)
-unfolding grown
-list_grown e place room =
-    take_at (insert e (list_of place)) (drop (place.count + 1) place.items) (place.count + 1)
-    (insert_length e (list_of place) ∙ ap (λ n. n + 1) (length-take-le place.count place.items (omega arith)))
-
 -- the answers in their order
 module _ (e : Entry) (es : List Entry) where
   pub is_present : on es e.depot ≡ true → Err Present ≡ insertion e es
@@ -119,3 +111,32 @@ module _ (e : Entry) (es : List Entry) where
       → Ok tt ≡ insertion e es
   unfolding insertion
   is_taken absent room within = let f = lt-ltb (length es) max_depots room in rw (absent, f, within)
+
+-- a place that is not full has room for another entry
+pub room_left : (list items : List Entry) → list ≡ items → eqb (length items) 16 ≡ false → length items ≤ 16
+    → length list < max_depots
+room_left list items is apart fits =
+    let other = eqb-false (length items) 16 apart in
+    let same = ap length is in
+    omega (arith, as_many_marks)
+
+-- what putting an entry to a list leaves, where `list` is what was read of the place
+module _ (e : Entry) (list before : List Entry) (is : list ≡ before) where
+  pub refused : (why : InsertRefusal) → Err why ≡ insertion e list → Inserted e before (Err why) before
+  refused why told = record {
+    answer = told ∙ ap (insertion e) is;
+    list = refl;
+    begun = λ n begun low wish. begun;
+  }
+
+  pub taken : {after : List Entry} → after ≡ insert e before → on list e.depot ≡ false → length list < max_depots
+      → leb (pool list + e.shelf) max_pool ≡ true → Inserted e before (Ok tt) after
+  taken grown absent room within = record {
+    answer = is_taken e list absent room within ∙ ap (insertion e) is;
+    list = grown;
+    begun = λ n begun low wish.
+        subst (Begun n) (sym grown)
+        (insert_begun n e before (sym (ap (λ es. on es e.depot) is) ∙ absent)
+        (leb-true _ _ (sym (ap (λ es. leb (pool es + e.shelf) max_pool) is) ∙ within))
+        begun low wish);
+  }

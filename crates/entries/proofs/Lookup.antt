@@ -1,48 +1,23 @@
--- Looking a depot up on a list, entry by entry: what is left of the list gives the answer, until the depot is met.
-use Rattle.std.proofs.Common.{◌≡◌, ℕ, ◌+◌, ◌<◌, ◌≤◌, true, false, cond, ◌||◌, eqb, List, [], ◌∷◌, length, get_or, drop, Some, None, Option, sym, refl, ap, arith}
-use Rattle.std.proofs.lemmas.List.{at_drop_more, at_drop_all}
-use Rattle.std.specs.List.{AllByRecursion}
-use Rattle.std.proofs.lemmas.Bool.{eq-eqb, ne_eqb, eqb-true, cond_both, false≢true}
+-- Looking a depot up on a list: the first entry of the depot is the answer, and there is one where it is on the list.
+use Rattle.std.proofs.Common.{◌≡◌, ℕ, ◌<◌, Bool, true, false, cond, ◌||◌, eqb, List, [], ◌∷◌, Some, None, Option, refl, arith}
+use Rattle.std.specs.List.{AllByRecursion, find}
+use Rattle.std.proofs.lemmas.Bool.{eqb-true, cond_both, false≢true}
 use Rattle.entries.specs.declared.lists.Entry.{Entry}
-use Rattle.entries.specs.Lists.{blank, on, entry_of}
-
-module _ (es : List Entry) (i d : ℕ) (within : i < length es) where
-  abbrev here : Entry
-  here = get_or es i blank
-
-  on_more : on (drop i es) d ≡ (eqb here.depot d || on (drop (i + 1) es) d)
-  unfolding on
-  on_more = at_drop_more (λ xs. on xs d) es i blank within
-
-  entry_more : entry_of (drop i es) d ≡ cond (eqb here.depot d) here (entry_of (drop (i + 1) es) d)
-  unfolding entry_of
-  entry_more = at_drop_more (λ xs. entry_of xs d) es i blank within
-
-  pub on_here : here.depot ≡ d → on (drop i es) d ≡ true
-  on_here e = let t = eq-eqb here.depot d e in rw (on_more, t)
-
-  pub entry_here : here.depot ≡ d → entry_of (drop i es) d ≡ here
-  entry_here e = let t = eq-eqb here.depot d e in rw (entry_more, t)
-
-  pub on_passed : (here.depot ≡ d → ⊥) → on (drop (i + 1) es) d ≡ on (drop i es) d
-  on_passed n = let t = ne_eqb here.depot d n in sym (rw (on_more, t))
-
-  pub entry_passed : (here.depot ≡ d → ⊥) → entry_of (drop (i + 1) es) d ≡ entry_of (drop i es) d
-  entry_passed n = let t = ne_eqb here.depot d n in sym (rw (entry_more, t))
-
-pub on_end : (es : List Entry) (i d : ℕ) → length es ≤ i → on (drop i es) d ≡ false
-unfolding on
-on_end es i d end = at_drop_all (λ xs. on xs d) es i end
+use Rattle.entries.specs.Lists.{on, entry_of}
 
 -- the answer of a search, from the test and the entry that it rests on
 abbrev pub looked_up : List Entry → ℕ → Option Entry
 looked_up es d = cond (on es d) (Some (entry_of es d)) None
 
-pub found : (es : List Entry) (d : ℕ) (e : Entry) → on es d ≡ true → entry_of es d ≡ e → Some e ≡ looked_up es d
-found es d e t is = let s : Some (entry_of es d) ≡ Some e = ap Some is in rw (t, is)
+first_or_later : (b later : Bool) (e other : Entry) (r : Option Entry) → r ≡ cond later (Some other) None
+    → cond b (Some e) r ≡ cond (b || later) (Some (cond b e other)) None
+first_or_later true later e other r is = refl
+first_or_later false later e other r is = is
 
-pub missing : (es : List Entry) (d : ℕ) → on es d ≡ false → None ≡ looked_up es d
-missing es d t = rw t
+pub first_is : (es : List Entry) (d : ℕ) → find (λ e. eqb e.depot d) es ≡ looked_up es d
+unfolding on entry_of
+first_is [] d = refl
+first_is (e ∷ es) d = first_or_later (eqb e.depot d) (on es d) e (entry_of es d) _ (first_is es d)
 
 -- what is known of every entry is known of the one that is found
 pub entry_all : (P : Entry → Type 0) (es : List Entry) (d : ℕ) → AllByRecursion P es → on es d ≡ true

@@ -1,18 +1,13 @@
 -- Lists of entries, each with a depot, its shelf and its wish.
-use Rattle.std.specs.Prelude.{ℕ, ◌+◌, ◌<◌, ◌≤◌, Bool, false, cond, ◌||◌, List, [], ◌∷◌, length, take, sum_by, ◌==◌, nat_lt}
+use Rattle.std.specs.Prelude.{ℕ, ◌+◌, ◌<◌, ◌≤◌, Bool, false, cond, ◌||◌, List, [], ◌∷◌, length, sum_by, ◌==◌, nat_lt}
 use Rattle.std.specs.List.{AllByRecursion}
 use Rattle.entries.specs.declared.lists.Entry.{Entry}
-use Rattle.entries.specs.declared.lists.Entries.{Entries}
 use Rattle.entries.specs.Limits.{max_depots, max_wish, max_pool}
 use Rattle.entries.specs.Sets.{add}
 
--- an entry that says nothing: what an unused part of a fixed place holds
+-- an entry that says nothing
 abbrev pub blank : Entry
 blank = record { depot = 0; shelf = 0; wish = 0 }
-
--- what stands in a fixed place
-abbrev pub list_of : Entries → List Entry
-list_of place = take place.count place.items
 
 -- the pieces on all shelves of a list
 abbrev pub pool : List Entry → ℕ

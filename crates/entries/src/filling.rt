@@ -1,11 +1,18 @@
-// Filling a fixed place with entries, in rising order of their depots.
-ghost use Rattle.std.specs.Prelude.{◌≡◌, ℕ, ◌+◌, ◌<◌, ◌≤◌, min, Bool, not, length, nat_le, nat_lt};
+// Filling a place with entries, in rising order of their depots.
+ghost use Rattle.std.specs.Prelude.{◌≡◌, ℕ, ◌+◌, ◌<◌, ◌≤◌, Bool, not, List, [], ◌∷◌, ◌++◌, length, take, nat_le, nat_lt};
 ghost use Rattle.std.specs.List.{prefix_len};
+ghost use Rattle.entries.specs.declared.lists.Entry.{Entry};
 ghost use Rattle.entries.specs.Limits.{max_depots, max_pool};
-ghost use Rattle.entries.specs.Lists.{list_of, pool, insert};
-ghost use Rattle.entries.specs.Filling.{empty_place, grown, Inserted};
+ghost use Rattle.entries.specs.Lists.{pool};
+ghost use Rattle.entries.specs.Filling.{Inserted};
 
-use crate::lists::{Entries, Entry, MAX_POOL, PLACES, on_list, pool_of};
+use crate::lists::{Entry, MAX_POOL, on_list, pool_of};
+use crate::sets::MAX_DEPOTS;
+use arrayvec::ArrayVec;
+use std::marker::Model;
+
+/// How many entries a place has room for: one for each depot.
+pub const PLACES: usize = MAX_DEPOTS as usize;
 
 /// Why an entry is not put into a place.
 #[derive(Clone, Copy, PartialEq, Eq, Debug)]
@@ -18,14 +25,24 @@ pub enum InsertRefusal {
     PastLimit,
 }
 
+/// Entries in a place of their own, which has room for one of each depot and never allocates. A clause sees them as the
+/// list that they are.
+#[derive(Drop)]
+pub struct Entries {
+    items: ArrayVec<Entry, PLACES>,
+}
+
+impl Model for Entries {
+    ghost Value = { List Entry };
+
+    ghost view = { λ place. place.items.items };
+}
+
 /// Whether the shelves of a list may hold more pieces, and still keep within the limit.
 pub fn may_hold(list: &[Entry], pieces: u32) -> bool
     ensures { result ≡ nat_le (pool list.now + pieces) max_pool }
 {
-    match pool_of(list) {
-        Some(sum) => pieces <= MAX_POOL - sum,
-        None => false,
-    }
+    pool_of(list).is_some_and(|sum| pieces <= MAX_POOL - sum)
 }
 
 /// Where an entry of a depot is put: before the first entry whose depot is above it.
@@ -33,35 +50,47 @@ fn place_for(list: &[Entry], depot: u8) -> usize
     ensures place { result ≡ prefix_len (λ e. not (nat_lt depot e.depot)) list.now }
     ensures within { result ≤ length list.now }
 {
-    for (i, next) in list.iter().enumerate() {
-        if depot < next.depot {
-            return i;
-        }
-    }
-    list.len()
+    list.iter()
+        .position(|next| depot < next.depot)
+        .unwrap_or(list.len())
 }
 
 impl Entries {
     /// A place without entries.
     pub fn empty() -> Entries
-        ensures { result ≡ empty_place }
+        ensures { result ≡ [] }
     {
-        Entries {
-            items: [Entry {
-                depot: 0,
-                shelf: 0,
-                wish: 0,
-            }; PLACES],
-            count: 0,
-        }
+        Entries::of(&[])
     }
 
-    /// The entries that stand in the place. A count past the end of the place stands for all of it.
-    pub fn as_slice(&self) -> &[Entry]
-        ensures list { result.now ≡ list_of self.now }
-        ensures counted { length result.now ≡ min self.now.count max_depots }
+    /// A place with these entries, the first of them, as many as it has room for.
+    #[tactic(auto, using(crate::proofs::Width::as_many_marks))]
+    pub fn of(list: &[Entry]) -> Entries
+        ensures { result ≡ take max_depots list.now }
     {
-        &self.items[0..self.count.min(PLACES)]
+        let mut items = ArrayVec::new();
+        items
+            .try_extend_from_slice(&list[..list.len().min(PLACES)])
+            .unwrap();
+        Entries { items }
+    }
+
+    /// The entries that stand in the place.
+    #[tactic(auto, using(crate::proofs::Width::as_many_marks))]
+    pub fn as_slice(&self) -> &[Entry]
+        ensures list { result.now ≡ self.now }
+        ensures few { length result.now ≤ max_depots }
+    {
+        self.items.as_slice()
+    }
+
+    /// Puts an entry behind the others. Callers have counted that there is room.
+    #[tactic(auto, using(crate::proofs::Width::as_many_marks))]
+    pub fn push(&mut self, entry: Entry)
+        requires { length self.old < max_depots }
+        ensures { self.new ≡ self.old ++ entry ∷ [] }
+    {
+        self.items.push(entry);
     }
 
     /// Puts an entry where its depot comes in rising order. It refuses an entry whose depot is there already, then one
@@ -75,26 +104,14 @@ impl Entries {
         if on_list(list, entry.depot) {
             return Err(InsertRefusal::Present);
         }
-        if self.count >= PLACES {
+        if self.items.is_full() {
             return Err(InsertRefusal::Full);
         }
         if !may_hold(list, entry.shelf) {
             return Err(InsertRefusal::PastLimit);
         }
-        self.put(entry);
+        let place = place_for(list, entry.depot);
+        self.items.insert(place, entry);
         Ok(())
-    }
-
-    /// Puts an entry into a place with room, where its depot comes in rising order: it is written behind the others,
-    /// and those above it then move up by one.
-    fn put(&mut self, entry: Entry)
-        requires { self.old.count < PLACES }
-        ensures place { self.new ≡ grown entry self.old }
-        ensures list { list_of self.new ≡ insert entry (list_of self.old) }
-    {
-        let place = place_for(self.as_slice(), entry.depot);
-        self.items[self.count] = entry;
-        self.items[place..self.count + 1].rotate_right(1);
-        self.count += 1;
     }
 }

@@ -5,9 +5,8 @@ mod filling;
 mod lists;
 mod sets;
 
-pub use filling::{InsertRefusal, may_hold};
+pub use filling::{Entries, InsertRefusal, PLACES, may_hold};
 pub use lists::{
-    Entries, Entry, MAX_POOL, MAX_SHELF, MAX_WISH, PLACES, entry_of, is_list, names_of, on_list,
-    pool_of,
+    Entry, MAX_POOL, MAX_SHELF, MAX_WISH, entry_of, is_list, names_of, on_list, pool_of,
 };
 pub use sets::{Depots, MAX_DEPOTS, is_depot};

@@ -4,7 +4,7 @@ ghost use Rattle.std.specs.List.{AllByRecursion};
 ghost use Rattle.entries.specs.Limits.{max_depots, max_pool};
 ghost use Rattle.entries.specs.Lists.{pool, Listed, on, entry_of, names, MayFollow, Orderly};
 
-use crate::sets::{Depots, MAX_DEPOTS, is_depot};
+use crate::sets::{Depots, is_depot};
 
 /// The most that a depot may wish for.
 pub const MAX_WISH: u32 = 1_000_000;
@@ -18,22 +18,12 @@ pub const MAX_POOL: u32 = 1_000_000_000;
 /// The fewest entries that a list has.
 const FEWEST: usize = 2;
 
-/// How many entries a place has room for: one for each depot.
-pub const PLACES: usize = MAX_DEPOTS as usize;
-
 /// What one depot brings to a handover: its number, the pieces on its shelf, and the pieces that it wishes for.
-#[derive(Clone, Copy, PartialEq, Eq, Debug)]
+#[derive(Clone, Copy, PartialEq, Eq, Default, Debug)]
 pub struct Entry {
     pub depot: u8,
     pub shelf: u32,
     pub wish: u32,
-}
-
-/// Entries in a fixed place: the first `count` of `items`.
-#[derive(Clone, Copy)]
-pub struct Entries {
-    pub items: [Entry; PLACES],
-    pub count: usize,
 }
 
 /// The pieces on all shelves of a list, or none where they pass what the shelves of a list may hold together.
@@ -54,12 +44,7 @@ pub fn pool_of(list: &[Entry]) -> Option<u32>
 pub fn entry_of(list: &[Entry], depot: u8) -> Option<Entry>
     ensures { result ≡ (if on list.now depot then Some (entry_of list.now depot) else None) }
 {
-    for next in list {
-        if next.depot == depot {
-            return Some(*next);
-        }
-    }
-    None
+    list.iter().find(|next| next.depot == depot).copied()
 }
 
 /// Whether a depot is on the list.
@@ -76,8 +61,8 @@ pub fn names_of(list: &[Entry]) -> Depots
     ensures { result.0 ≡ names list.now }
 {
     let mut set = Depots::none();
-    for i in (0..list.len()).rev() {
-        set = set.with(list[i].depot);
+    for next in list.iter().rev() {
+        set = set.with(next.depot);
     }
     set
 }

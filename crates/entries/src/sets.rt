@@ -98,7 +98,8 @@ impl Depots {
     }
 
     /// Whether two sets have the same depots, which is whether they are the same number: a set is its membership. The
-    /// clause `laws` states what that means for every operation, over any number of depots.
+    /// clause `laws` states what that means for every operation, over any number of depots. The derived `==` answers the
+    /// same, and promises it of the numbers alone.
     pub fn same(self, other: Depots) -> bool
         ensures answer { Decides result ((i : ℕ) → has self.0 i ≡ has other.0 i) }
         ensures laws { ByMembership }

@@ -1,5 +1,5 @@
 use entries::{
-    Depots, Entries, Entry, InsertRefusal, MAX_POOL, MAX_WISH, PLACES, entry_of, is_depot, is_list,
+    Depots, Entries, Entry, InsertRefusal, MAX_POOL, MAX_WISH, entry_of, is_depot, is_list,
     names_of, on_list, pool_of,
 };
 use std::test::Fail;
@@ -181,14 +181,11 @@ fn lists_and_what_is_none(rt: HostRuntime) {
 
 #[test]
 fn a_count_past_the_place_stands_for_all_of_it(rt: HostRuntime) {
-    let mut place = Entries {
-        items: [entry(3, 1, 0); PLACES],
-        count: 99,
-    };
+    let mut place = Entries::of(&[entry(3, 1, 0); 99]);
     assert_eq!(rt; place.as_slice().len(), 16);
     assert_eq!(rt;
         fill(&mut place, &[entry(4, 1, 0)]),
         Err(InsertRefusal::Full)
     );
-    assert_eq!(rt; place.count, 99);
+    assert!(rt; place.as_slice() == &[entry(3, 1, 0); 16]);
 }
