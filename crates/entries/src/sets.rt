@@ -12,6 +12,7 @@ pub const MAX_DEPOTS: u8 = 16;
 pub struct Depots(pub u16);
 
 /// Whether a number is that of a depot.
+#[tactic(auto, using(crate::proofs::Width::as_many_marks))]
 pub fn is_depot(number: u8) -> bool
     ensures { result ≡ nat_lt number max_depots }
 {
@@ -58,6 +59,7 @@ impl Depots {
     }
 
     /// The depots of either set.
+    #[tactic(auto, unfolding(crate::specs::Sets::union))]
     pub fn union(self, other: Depots) -> Depots
         ensures { result.0 ≡ union self.0 other.0 }
     {
@@ -65,6 +67,7 @@ impl Depots {
     }
 
     /// The set with a depot. Callers have the depot from a list or a record, where it lies below the greatest number.
+    #[tactic(auto, unfolding(crate::specs::Sets::add))]
     pub fn with(self, depot: u8) -> Depots
         requires { depot < max_depots }
         ensures { result.0 ≡ add self.0 depot }
@@ -73,6 +76,7 @@ impl Depots {
     }
 
     /// The set without the depots of another.
+    #[tactic(auto, unfolding(crate::specs::Sets::less))]
     pub fn minus(self, other: Depots) -> Depots
         ensures { result.0 ≡ less self.0 other.0 }
     {
@@ -91,6 +95,7 @@ impl Depots {
     }
 
     /// Whether the set has every depot of another.
+    #[tactic(auto, unfolding(crate::specs::Sets::covers))]
     pub fn covers(self, other: Depots) -> bool
         ensures { result ≡ covers self.0 other.0 }
     {
