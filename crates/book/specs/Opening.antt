@@ -23,11 +23,11 @@ planned p = record { total = p.total; n = p.depots; shares = λ _. 0; allotted =
 -- a draft, in the words of the definitions
 abbrev pub drafting : Draft → definitions.Draft
 drafting d =
-    record { total = d.total; n = d.depots; shares = shares_of d.shares.of; allotted = d.allotted.0 }
+    record { total = d.plan.total; n = d.plan.depots; shares = shares_of d.shares.of; allotted = d.allotted.0 }
 
 -- an opened set, in the words of the definitions
 abbrev pub opening : Opened → definitions.Opening
-opening o = record { n = o.depots; shares = shares_of o.shares.of }
+opening o = record { n = o.plan.depots; shares = shares_of o.shares.of }
 
 -- a plan is the answer where the definitions draft the set
 abbrev pub Planned : ℕ → ℕ → Result Plan Refusal → Type 0
@@ -55,7 +55,7 @@ pub record OpenedUp (d : Draft) (o : Opened) : Type 0 where
 -- a record was handed out: its site, and the set after it, in which only the depot is marked as handed
 pub record HandedOut (depot : ℕ) (before : Opened) (r : Record) (after : Opened) : Type 0 where
   pub state : hand (opening before) (has before.handed.0) depot ≡ serves (view r) none
-  pub site : site r ≡ record { depot = depot; n = before.depots; code = before.code }
+  pub site : site r ≡ record { depot = depot; n = before.plan.depots; code = before.code }
   pub shares : opening after ≡ opening before
   pub code : after.code ≡ before.code
   pub handed : after.handed.0 ≡ add before.handed.0 depot

@@ -1,5 +1,5 @@
 // Opening a set: a plan, a draft that is allotted, and an opened set that hands out the records.
-ghost use Rattle.std.specs.Prelude.{◌≡◌, ℕ, ◌+◌, ◌≤◌, false, length};
+ghost use Rattle.std.specs.Prelude.{◌≡◌, ℕ, ◌+◌, ◌≤◌, false};
 ghost use Rattle.entries.specs.Limits.{max_depots};
 ghost use Rattle.entries.specs.Sets.{has};
 ghost use Rattle.protocol.specs.Limits.{max_total};
@@ -19,7 +19,7 @@ pub struct Plan {
     ghost lawful: { (1 ≤ depots) × (depots ≤ max_depots) × (total ≤ max_total) },
 }
 
-/// The pieces of each depot.
+/// The pieces of each depot. The array lies in a plain inner struct, as the project's rules have it.
 #[derive(Clone, Copy)]
 pub struct Shares {
     pub of: [u32; PLACES],
@@ -31,25 +31,23 @@ pub struct Shares {
 /// pieces yet.
 #[derive(Drop)]
 pub struct Draft {
-    total: u32,
-    depots: u8,
+    plan: Plan,
     code: u8,
     left: u32,
     shares: Shares,
     allotted: Depots,
-    ghost lawful: { (1 ≤ depots) × (depots ≤ max_depots) × (1 ≤ code) × (total ≤ max_total) },
-    ghost whole: { (sum_to depots (shares_of shares.of) + left ≡ total) × (length shares.of ≡ max_depots) },
+    ghost coded: { 1 ≤ code },
+    ghost whole: { sum_to plan.depots (shares_of shares.of) + left ≡ plan.total },
     ghost blank: { (i : ℕ) → has allotted.0 i ≡ false → shares_of shares.of i ≡ 0 },
 }
 
 /// An opened set. It can only be handed out. Its type says that the shares add up to the total.
 #[derive(Drop)]
 pub struct Opened {
-    total: u32,
-    depots: u8,
+    plan: Plan,
     code: u8,
     shares: Shares,
     handed: Depots,
-    ghost lawful: { (1 ≤ depots) × (depots ≤ max_depots) × (1 ≤ code) × (total ≤ max_total) },
-    ghost whole: { (sum_to depots (shares_of shares.of) ≡ total) × (length shares.of ≡ max_depots) },
+    ghost coded: { 1 ≤ code },
+    ghost whole: { sum_to plan.depots (shares_of shares.of) ≡ plan.total },
 }

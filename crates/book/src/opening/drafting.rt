@@ -1,4 +1,6 @@
 // Planning, drafting and allotting a set, and opening it.
+ghost use Rattle.std.specs.Prelude.{◌≡◌, if◌then◌else◌, Ok, Err, nat_lt};
+ghost use Rattle.protocol.specs.declared.refusal.Refusal.TheVariants.{NoSuchDepot};
 ghost use Rattle.book.specs.Opening.{Planned, Drafted, Allotted, OpenedUp};
 
 use crate::opening::{Draft, Opened, Plan, Shares};
@@ -16,13 +18,25 @@ impl Plan {
     pub fn check(total: u32, depots: u8) -> Result<Plan, Refusal>
         ensures { Planned total depots result }
     {
-        if depots < 1 || depots > MAX_DEPOTS {
+        if !(1..=MAX_DEPOTS).contains(&depots) {
             return Err(Refusal::DepotCount);
         }
         if total > MAX_TOTAL {
             return Err(Refusal::TotalTooGreat);
         }
         Ok(Plan { total, depots })
+    }
+
+    /// The place of a depot's share.
+    ///
+    /// Refuses a depot that the set does not have (3).
+    pub(crate) fn place(self, depot: u8) -> Result<usize, Refusal>
+        ensures { result ≡ (if nat_lt depot self.depots then Ok depot else Err NoSuchDepot) }
+    {
+        if depot >= self.depots {
+            return Err(Refusal::NoSuchDepot);
+        }
+        Ok(usize::from(depot))
     }
 }
 
@@ -32,8 +46,7 @@ impl Draft {
         ensures { Drafted P.Policy.code plan result }
     {
         Draft {
-            total: plan.total,
-            depots: plan.depots,
+            plan,
             code: P::marked(),
             left: plan.total,
             shares: Shares { of: [0; PLACES] },
@@ -47,9 +60,7 @@ impl Draft {
     pub fn allot(&mut self, depot: u8, pieces: u32) -> Result<(), Refusal>
         ensures { Allotted depot pieces self.old result self.new }
     {
-        if depot >= self.depots {
-            return Err(Refusal::NoSuchDepot);
-        }
+        let place = self.plan.place(depot)?;
         if self.allotted.contains(depot) {
             return Err(Refusal::AllottedBefore);
         }
@@ -57,7 +68,7 @@ impl Draft {
             return Err(Refusal::MoreThanRemains);
         }
         self.left -= pieces;
-        self.shares.of[depot as usize] = pieces;
+        self.shares.of[place] = pieces;
         self.allotted = self.allotted.with(depot);
         Ok(())
     }
@@ -66,20 +77,11 @@ impl Draft {
     pub fn open(self) -> Opened
         ensures { OpenedUp self result }
     {
-        let Draft {
-            total,
-            depots,
-            code,
-            left,
-            shares,
-            allotted: _,
-        } = self;
-        let mut shares = shares;
-        shares.of[0] += left;
+        let mut shares = self.shares;
+        shares.of[0] += self.left;
         Opened {
-            total,
-            depots,
-            code,
+            plan: self.plan,
+            code: self.code,
             shares,
             handed: Depots::none(),
         }

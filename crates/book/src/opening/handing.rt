@@ -13,18 +13,16 @@ impl Opened {
     pub fn hand(&mut self, depot: u8) -> Result<Record, Refusal>
         ensures { Handed depot self.old result self.new }
     {
-        if depot >= self.depots {
-            return Err(Refusal::NoSuchDepot);
-        }
+        let place = self.plan.place(depot)?;
         if self.handed.contains(depot) {
             return Err(Refusal::HandedBefore);
         }
         let identity = Identity {
             depot,
-            depots: self.depots,
+            depots: self.plan.depots,
             code: self.code,
         };
-        let share = self.shares.of[depot as usize];
+        let share = self.shares.of[place];
         self.handed = self.handed.with(depot);
         Ok(Record::handed(identity, share))
     }

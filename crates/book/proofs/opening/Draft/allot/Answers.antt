@@ -1,8 +1,13 @@
-use Rattle.std.proofs.Common.{◌≡◌, ℕ, false, List, set, Ok, sym, refl, ◌∙◌, subst, ap₂, inl, inr, arith, length-set}
+use Rattle.std.proofs.Common.{◌≡◌, ℕ, ◌<◌, ◌≤◌, false, List, set, Ok, sym, refl, ◌∙◌, subst, ap₂, inl, inr, arith}
 use Rattle.std.proofs.lemmas.List.{get_or-set_other}
 use Rattle.std.proofs.lemmas.Bool.{both_ways}
+use Rattle.std.proofs.lemmas.Bool.Decides.{nat_tests}
+use Rattle.std.proofs.lemmas.Result.{err_from_is_err_and}
 use Rattle.entries.specs.Sets.{has, add}
+use Rattle.entries.proofs.Width.{as_many_marks}
 use Rattle.protocol.specs.Opening.{Draft}
+use Rattle.protocol.specs.State.{pick}
+use Rattle.protocol.specs.declared.refusal.Refusal.TheVariants.{NoSuchDepot}
 use Rattle.protocol.proofs.InSets.{add_tells}
 use Rattle.book.specs.declared.opening.Draft as draft
 use Rattle.book.specs.Fields.{shares_of}
@@ -22,51 +27,44 @@ blank_still of allotted k pieces blank i h =
 
 -- the draft with other shares and other depots allotted
 abbrev with_shares : draft.Draft → (ℕ → ℕ) → ℕ → Draft
-with_shares d f m = record { total = d.total; n = d.depots; shares = f; allotted = m }
+with_shares d f m = record { total = d.plan.total; n = d.plan.depots; shares = f; allotted = m }
+
+pub returns-in_err-place : goal.returns-in_err-place
+unfolding pick
+returns-in_err-place c =
+    let p = err_from_is_err_and c.from_residual.result c.from_residual.ensures.1 in
+    rw (p.1, p.2) (grind (arith, nat_tests))
+
+pub returns-then-contains : goal.returns-then-contains
+unfolding pick
+returns-then-contains c = grind (arith, nat_tests)
+
+pub returns-then-pieces-self : goal.returns-then-pieces-self
+unfolding pick
+returns-then-pieces-self c = let whole = c.args.self.now.whole in grind (arith, nat_tests)
+
+pub bounds-self-place : goal.bounds-self-place
+bounds-self-place c = let w = as_many_marks in grind (arith, nat_tests)
 
 pub invariant_of-self : goal.invariant_of-self
 invariant_of-self c =
     let d = c.args.self.now in
     let of = d.shares.of in
-    let k = c.args.depot in
-    let e = sum_set d.depots k c.args.pieces of (omega arith) (omega arith) in
-    let z = d.blank k (sym c.if-contains.ensures) in
+    let k = c.in_ok-place.place in
+    let w : k < d.plan.depots = grind (arith, nat_tests) in
+    let e = sum_set d.plan.depots k c.args.pieces of w (omega (arith, as_many_marks)) in
+    let z : shares_of of k ≡ 0 = grind (arith, nat_tests) in
     record {
-      lawful = d.lawful;
-      whole = (omega arith, length-set _ _ _ ∙ d.whole.1);
+      coded = d.coded;
+      whole = omega arith;
       blank =
-          λ i h. blank_still of d.allotted.0 k c.args.pieces d.blank i
-          (subst (λ x. has x i ≡ false) c.with-self.ensures h);
+          λ i h. grind (arith, nat_tests, add_tells, get_or-set_other);
     }
 
-pub returns-then-depot-self : goal.returns-then-depot-self
-returns-then-depot-self c =
-    let d = c.args.self.now in
-    (allot_outside (drafting d) c.args.depot c.args.pieces (omega arith), refl)
-
-pub returns-then-contains : goal.returns-then-contains
-returns-then-contains c =
-    let d = c.args.self.now in (
-      allot_before (drafting d) c.args.depot c.args.pieces (omega arith)
-          (sym c.contains.ensures ∙ c.if-contains.true),
-      refl,
-    )
-
-pub returns-then-pieces-self : goal.returns-then-pieces-self
-returns-then-pieces-self c =
-    let d = c.args.self.now in (
-      allot_more (drafting d) c.args.depot c.args.pieces d.left d.whole.0 (omega arith)
-          (sym c.contains.ensures ∙ c.if-contains.false) (omega arith),
-      refl,
-    )
-
 pub returns : goal.returns
+unfolding pick
 returns c =
     let d = c.args.self.now in
-    let k = c.args.depot in (
-      allots (drafting d) k c.args.pieces d.left d.whole.0 (omega arith)
-          (sym c.contains.ensures ∙ c.if-contains.false) (omega arith)
-          ∙ ap₂ (λ f m. Ok (with_shares d f m)) (sym (share_set d.shares.of k c.args.pieces (omega arith)))
-          (sym c.with-self.ensures),
-      refl,
-    )
+    let w : c.in_ok-place.place < d.plan.depots = grind (arith, nat_tests) in
+    let e = share_set d.shares.of c.in_ok-place.place c.args.pieces (omega (arith, as_many_marks)) in
+    grind (arith, nat_tests)

@@ -1,5 +1,4 @@
-use Rattle.std.proofs.Common.{◌≡◌, ℕ, ◌+◌, refl, ap, ◌∙◌, arith, length-set}
-use Rattle.entries.proofs.Width.{as_many_marks}
+use Rattle.std.proofs.Common.{◌≡◌, ℕ, ◌+◌, refl, ap, ◌∙◌, arith}
 use Rattle.protocol.specs.State.{upd}
 use Rattle.protocol.specs.Opening.{Opening, remains}
 use Rattle.book.specs.Fields.{shares_of}
@@ -14,24 +13,18 @@ opening_of n shares = record { n = n; shares = shares }
 pub overflow_add-shares : goal.overflow_add-shares
 overflow_add-shares c =
     let d = c.args.self in
-    omega (arith, share_within d.depots 0 (shares_of d.shares.of) (omega arith))
+    omega (arith, share_within d.plan.depots 0 (shares_of d.shares.of) (omega arith))
 
 pub invariant_of-result : goal.invariant_of-result
 invariant_of-result c =
     let d = c.args.self in
     let of = d.shares.of in
-    let e = sum_set d.depots 0 (shares_of of 0 + d.left) of (omega arith) (omega (arith, as_many_marks)) in
-    record { lawful = d.lawful; whole = (omega arith, length-set _ _ _ ∙ d.whole.1) }
+    let e = sum_set d.plan.depots 0 (shares_of of 0 + d.left) of (omega arith) (omega arith) in
+    record { coded = d.coded; whole = omega arith }
 
 pub returns : goal.returns
 returns c =
     let d = c.args.self in
-    let of = d.shares.of in
-    let left_is : d.left ≡ remains (drafting d) = (let w = d.whole.0 in omega arith) in
-    record {
-      shares =
-          ap (opening_of d.depots) (share_set of 0 (shares_of of 0 + d.left) (omega (arith, as_many_marks))
-          ∙ ap (λ r. upd (shares_of of) 0 (shares_of of 0 + r)) left_is);
-      code = refl;
-      handed = c.none.ensures;
-    }
+    let left_is : d.left ≡ remains (drafting d) = omega arith in
+    let e = share_set d.shares.of 0 (shares_of d.shares.of 0 + d.left) (omega arith) in
+    grind arith

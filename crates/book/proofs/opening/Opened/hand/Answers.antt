@@ -1,6 +1,11 @@
-use Rattle.std.proofs.Common.{sym, refl, ap, ◌∙◌, arith}
+use Rattle.std.proofs.Common.{◌≡◌, ◌<◌, ◌≤◌, sym, refl, ap, ◌∙◌, arith}
 use mathlib.Core.Option.{none}
+use Rattle.std.proofs.lemmas.Bool.Decides.{nat_tests}
+use Rattle.std.proofs.lemmas.Result.{err_from_is_err_and}
 use Rattle.entries.specs.Sets.{has}
+use Rattle.entries.proofs.Width.{as_many_marks}
+use Rattle.protocol.specs.State.{pick}
+use Rattle.protocol.specs.declared.refusal.Refusal.TheVariants.{NoSuchDepot}
 use Rattle.protocol.specs.Outcome.{serves}
 use Rattle.book.specs.Fields.{shares_of}
 use Rattle.book.specs.Opening.{opening}
@@ -8,39 +13,23 @@ use Rattle.book.proofs.Shares.{share_within}
 use Rattle.book.proofs.Allotting.{hand_outside, hand_before, hands}
 use Rattle.book.proofs.opening.Opened.hand.Goals as goal
 
-pub handed-requires : goal.handed-requires
-handed-requires c =
-    let o = c.args.self.now in
-    record {
-      depot = omega arith;
-      depots = omega arith;
-      code = omega arith;
-      share = omega (arith, share_within o.depots c.args.depot (shares_of o.shares.of) (omega arith));
-    }
-
-pub returns-then-depot-self : goal.returns-then-depot-self
-returns-then-depot-self c =
-    let o = c.args.self.now in
-    (hand_outside (opening o) (has o.handed.0) c.args.depot (omega arith), refl)
+pub returns-in_err-place : goal.returns-in_err-place
+unfolding pick
+returns-in_err-place c = grind (arith, nat_tests)
 
 pub returns-then-contains : goal.returns-then-contains
-returns-then-contains c =
-    let o = c.args.self.now in (
-      hand_before (opening o) (has o.handed.0) c.args.depot (omega arith)
-          (sym c.contains.ensures ∙ c.if-contains.true),
-      refl,
-    )
+unfolding pick
+returns-then-contains c = grind (arith, nat_tests)
+
+pub bounds-self-place : goal.bounds-self-place
+bounds-self-place c = let w = as_many_marks in grind (arith, nat_tests)
+
+pub handed-requires-clause-share : goal.handed-requires-clause-share
+handed-requires-clause-share c =
+    let o = c.args.self.now in
+    let w : c.in_ok-place.place < o.plan.depots = grind (arith, nat_tests) in
+    omega (arith, share_within o.plan.depots c.in_ok-place.place (shares_of o.shares.of) w)
 
 pub returns : goal.returns
-returns c =
-    let o = c.args.self.now in
-    record {
-      state =
-          hands (opening o) (has o.handed.0) c.args.depot (omega arith)
-          (sym c.contains.ensures ∙ c.if-contains.false)
-          ∙ ap (λ s. serves s none) (sym c.handed.ensures.state);
-      site = c.handed.ensures.site;
-      shares = refl;
-      code = refl;
-      handed = c.with-self.ensures;
-    }
+unfolding pick
+returns c = grind (arith, nat_tests)
