@@ -7,7 +7,6 @@ pub mod Written
 pub mod Outcomes
 pub mod Listing
 pub mod Shares
-pub mod Allotting
 pub mod Reminding
 pub mod Gathering
 pub mod Covering

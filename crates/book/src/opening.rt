@@ -1,4 +1,6 @@
 // Opening a set: a plan, a draft that is allotted, and an opened set that hands out the records.
+#![tactic(auto, using(crate::proofs::Shares::opening_steps), unfolding(protocol::specs::State::pick))]
+
 ghost use Rattle.std.specs.Prelude.{◌≡◌, ℕ, ◌+◌, ◌≤◌, false};
 ghost use Rattle.entries.specs.Limits.{max_depots};
 ghost use Rattle.entries.specs.Sets.{has};
@@ -19,7 +21,8 @@ pub struct Plan {
     ghost lawful: { (1 ≤ depots) × (depots ≤ max_depots) × (total ≤ max_total) },
 }
 
-/// The pieces of each depot. The array lies in a plain inner struct, as the project's rules have it.
+/// The pieces of each depot.
+// Arrays lie in plain inner structs: the project's rule.
 #[derive(Clone, Copy)]
 pub struct Shares {
     pub of: [u32; PLACES],

@@ -1,9 +1,15 @@
-use Rattle.std.proofs.Common.{arith}
-use Rattle.book.proofs.Shares.{no_pieces, sum_nothing}
+use Rattle.std.proofs.Common.{replicate, arith}
+use Rattle.std.proofs.lemmas.List.{get_or-replicate}
+use Rattle.entries.proofs.Width.{as_many_marks}
+use Rattle.protocol.proofs.Sums.{sum_none}
+use Rattle.book.specs.Fields.{shares_of}
 use Rattle.book.proofs.opening.Draft.new.Goals as goal
 
-pub invariant_of-result : goal.invariant_of-result
-invariant_of-result g c =
-    let coded = g.met.P.Policy.coded in
-    let none = sum_nothing c.args.plan.depots 16 in
-    record { coded = omega arith; whole = omega arith; blank = λ i h. no_pieces 16 i }
+pub invariant_of-result-clause-coded : goal.invariant_of-result-clause-coded
+invariant_of-result-clause-coded g c = let coded = g.met.P.Policy.coded in omega arith
+
+pub invariant_of-result-clause-whole : goal.invariant_of-result-clause-whole
+invariant_of-result-clause-whole g c =
+    let none = sum_none c.args.plan.depots (shares_of (replicate 16 0))
+    (λ x l. get_or-replicate 16 x 0 0 (omega (arith, as_many_marks))) in
+    omega arith
