@@ -14,7 +14,7 @@ pub struct Level;
 impl Policy for Level {
     const CODE: u8 = 1;
 
-    ghost code = { 1 };
+    ghost CODE = { 1 };
 
     ghost share = { level };
 
@@ -23,14 +23,6 @@ impl Policy for Level {
     ghost size = { level_size };
 
     ghost conserves = { level_conserves };
-
-    fn marked() -> u8 {
-        Self::CODE
-    }
-
-    fn governs(other: u8) -> bool {
-        other == Self::CODE
-    }
 
     fn share_at(list: &[Entry], place: usize) -> u32 {
         dealt_at(pieces_of(list), list.len(), place)

@@ -8,25 +8,23 @@ use entries::Entry;
 
 /// A sharing policy: one share for each entry of a list, worked out from the list alone. Whoever writes one shows that
 /// its code lies in its range, that a list has a share for each entry, that these are together what its shelves hold, and
-/// that its functions answer what it means. Nothing more is known of it elsewhere.
+/// that `share_at` answers what it means. Nothing more is known of it elsewhere.
 pub trait Policy {
-    /// The policy's code, 1 to 255, which records and letters carry. `marked` and `governs` answer from it, and other code
-    /// asks them.
+    /// The policy's code, 1 to 255, which records and letters carry.
     const CODE: u8;
 
-    // the code as clauses name it
-    ghost code: { ℕ };
+    // the constant as clauses name it
+    ghost CODE: { ℕ };
 
     // what the policy means: the shares of a list's entries, in their order
     ghost share: { List Entry → List ℕ };
 
-    /// The policy's code.
-    fn marked() -> u8
-        ensures { result ≡ code };
-
     /// Whether a record's or a letter's code is this policy's.
     fn governs(other: u8) -> bool
-        ensures { result ≡ (other == code) };
+        ensures { result ≡ (other == CODE) }
+    {
+        other == Self::CODE
+    }
 
     /// The share of the entry at a place of a list. Callers have the list from a record or a letter, where it is one.
     fn share_at(list: &[Entry], place: usize) -> u32
@@ -34,7 +32,7 @@ pub trait Policy {
         requires within { place < length list.now }
         ensures { result ≡ slice_index (share list.now) place };
 
-    ghost coded: { Coded code };
+    ghost coded: { Coded CODE };
 
     ghost size: { OneEach share };
 

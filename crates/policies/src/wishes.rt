@@ -40,7 +40,7 @@ pub struct WishesFirst;
 impl Policy for WishesFirst {
     const CODE: u8 = 2;
 
-    ghost code = { 2 };
+    ghost CODE = { 2 };
 
     ghost share = { wishes_first };
 
@@ -49,14 +49,6 @@ impl Policy for WishesFirst {
     ghost size = { wishes_size };
 
     ghost conserves = { wishes_conserves };
-
-    fn marked() -> u8 {
-        Self::CODE
-    }
-
-    fn governs(other: u8) -> bool {
-        other == Self::CODE
-    }
 
     fn share_at(list: &[Entry], place: usize) -> u32 {
         let (mine, left) = granted_at(list, place, pieces_of(list));

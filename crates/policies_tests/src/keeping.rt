@@ -13,7 +13,7 @@ pub struct Keep;
 impl Policy for Keep {
     const CODE: u8 = 9;
 
-    ghost code = { 9 };
+    ghost CODE = { 9 };
 
     ghost share = { kept };
 
@@ -22,14 +22,6 @@ impl Policy for Keep {
     ghost size = { kept_size };
 
     ghost conserves = { kept_conserves };
-
-    fn marked() -> u8 {
-        Self::CODE
-    }
-
-    fn governs(other: u8) -> bool {
-        other == Self::CODE
-    }
 
     fn share_at(list: &[Entry], place: usize) -> u32 {
         list[place].shelf

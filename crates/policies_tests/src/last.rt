@@ -13,7 +13,7 @@ pub struct LastTakesAll;
 impl Policy for LastTakesAll {
     const CODE: u8 = 255;
 
-    ghost code = { 255 };
+    ghost CODE = { 255 };
 
     ghost share = { last_takes_all };
 
@@ -22,14 +22,6 @@ impl Policy for LastTakesAll {
     ghost size = { last_size };
 
     ghost conserves = { last_conserves };
-
-    fn marked() -> u8 {
-        Self::CODE
-    }
-
-    fn governs(other: u8) -> bool {
-        other == Self::CODE
-    }
 
     fn share_at(list: &[Entry], place: usize) -> u32 {
         if place + 1 == list.len() {

@@ -39,8 +39,8 @@ fn dealing(rt: HostRuntime) {
 
 #[test]
 fn codes(rt: HostRuntime) {
-    assert_eq!(rt; Level::marked(), 1);
-    assert_eq!(rt; WishesFirst::marked(), 2);
+    assert_eq!(rt; Level::CODE, 1);
+    assert_eq!(rt; WishesFirst::CODE, 2);
     assert!(rt; Level::governs(1) && !Level::governs(2) && !Level::governs(0));
     assert!(rt; WishesFirst::governs(2) && !WishesFirst::governs(1));
     assert!(rt; LastTakesAll::governs(255) && !Keep::governs(255));
