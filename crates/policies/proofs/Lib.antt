@@ -1,2 +1,4 @@
 pub mod Standing
 pub mod Reshelving
+pub mod Turns
+pub mod SharesAt

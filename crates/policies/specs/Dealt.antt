@@ -1,5 +1,6 @@
--- Dealing pieces out: k shares, which together are all the pieces, since the quotient k times and the remainder are.
-use Rattle.std.specs.Prelude.{◌≡◌, ℕ, zero, suc, ◌+◌, ◌-◌, ◌*◌, ◌/◌, ◌%◌, ◌<◌, ◌≤◌, cond, length, sum, nat_lt, slice_index, refl}
+-- Level is lawful: dealing out gives k shares, which together are all the pieces, since the quotient k times and the
+-- remainder are.
+use Rattle.std.specs.Prelude.{◌≡◌, ℕ, zero, suc, ◌+◌, ◌-◌, ◌*◌, ◌/◌, ◌%◌, ◌<◌, ◌≤◌, cond, length, sum, nat_lt, refl}
 use Rattle.std.proofs.Common.{ap, ◌∙◌, suc-mul, zero-mul, mod-lt, arith}
 use Rattle.std.proofs.Math.Nat.{div-add-mod}
 use Rattle.std.proofs.lemmas.List.Sums.{sum_by-cons}
@@ -20,14 +21,6 @@ evenly_sum each more (suc k) few =
     let times = suc-mul k each in
     grind (arith, nat_tests)
 
-evenly_at : (each more k place : ℕ) → place < k
-    → slice_index (evenly each more k) place ≡ cond (nat_lt place more) (each + 1) each
-evenly_at each more zero place within = absurd (omega arith)
-evenly_at each more (suc k) zero within = refl
-evenly_at each more (suc k) (suc place) within =
-    let others = evenly_at each (more - 1) k place (omega arith) in
-    grind (arith, nat_tests)
-
 module _ (pieces k : ℕ) where
   pub dealt_length : length (dealt_out pieces k) ≡ k
   dealt_length = evenly_length (pieces / k) (pieces % k) k
@@ -36,10 +29,6 @@ module _ (pieces k : ℕ) where
   dealt_sum some =
       let few = mod-lt pieces some in
       evenly_sum (pieces / k) (pieces % k) k (omega arith) ∙ div-add-mod pieces k
-
-  pub dealt_place_lem : (place : ℕ) → place < k
-      → slice_index (dealt_out pieces k) place ≡ cond (nat_lt place (pieces % k)) (pieces / k + 1) (pieces / k)
-  dealt_place_lem place within = evenly_at (pieces / k) (pieces % k) k place within
 
 pub level_size : OneEach level
 unfolding level

@@ -15,22 +15,23 @@ fn grant(wish: u32, left: u32) -> u32
     if wish <= left { wish } else { 0 }
 }
 
+/// What is left of pieces once the entries have had their turns at them.
+fn left_after(list: &[Entry], pieces: u32) -> u32
+    ensures { result ≡ rest pieces list.now }
+{
+    list.iter()
+        .fold(pieces, |left, next| left - grant(next.wish, left))
+}
+
 /// What the entry at a place is granted where all have their turn at the pieces, and what is left after the last turn.
 fn granted_at(list: &[Entry], place: usize, pieces: u32) -> (u32, u32)
     requires { place < length list.now }
     ensures mine { result.0 ≡ slice_index (grants pieces list.now) place }
     ensures left { result.1 ≡ rest pieces list.now }
 {
-    let mut left = pieces;
-    let mut mine = 0;
-    for (i, next) in list.iter().enumerate() {
-        let given = grant(next.wish, left);
-        if i == place {
-            mine = given;
-        }
-        left -= given;
-    }
-    (mine, left)
+    let (before, from) = list.split_at(place);
+    let left = left_after(before, pieces);
+    (grant(list[place].wish, left), left_after(from, left))
 }
 
 /// The policy that grants wishes in the order of the list, as far as each fits, and deals out what is left.
