@@ -13,12 +13,9 @@ pub fn share_of<P: Policy>(list: &[Entry], depot: u8) -> u32
     requires { Listed list.now }
     ensures { result ≡ share_of P.Policy.share list.now depot }
 {
-    for (place, next) in list.iter().enumerate() {
-        if next.depot == depot {
-            return P::share_at(list, place);
-        }
-    }
-    0
+    list.iter()
+        .position(|next| next.depot == depot)
+        .map_or(0, |place| P::share_at(list, place))
 }
 
 /// Deals a list out by a policy: the shelf of every entry becomes its share, and all else in the place stays. The
