@@ -1,8 +1,7 @@
 -- What dealing pieces and the two policies give, and what a depot finds as its share.
 use Rattle.std.specs.Prelude.{ℕ, zero, suc, ◌+◌, ◌-◌, ◌/◌, ◌%◌, cond, List, [], ◌∷◌, length, ◌==◌, nat_le, nat_lt}
 use Rattle.entries.specs.declared.lists.Entry.{Entry}
-use Rattle.entries.specs.declared.lists.Entries.{Entries}
-use Rattle.entries.specs.Lists.{list_of, pool}
+use Rattle.entries.specs.Lists.{pool}
 
 -- k shares of each pieces, and one piece more to the first more of them
 abbrev pub evenly : ℕ → ℕ → ℕ → List ℕ
@@ -56,7 +55,3 @@ unfoldable pub reshelved : List Entry → List ℕ → List Entry
 reshelved [] ns = []
 reshelved (e ∷ es) [] = e ∷ es
 reshelved (e ∷ es) (n ∷ ns) = record { depot = e.depot; shelf = n; wish = e.wish } ∷ reshelved es ns
-
--- a place whose list was dealt out: every shelf is the entry's share, and what lies behind the list stays
-unfoldable pub dealt_place : (List Entry → List ℕ) → Entries → Entries
-dealt_place share place = record { items = reshelved place.items (share (list_of place)); count = place.count }

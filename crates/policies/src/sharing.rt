@@ -1,6 +1,6 @@
 // What any policy gives, proved once from what makes a policy.
 ghost use Rattle.std.specs.Prelude.{◌≡◌, ℕ, ◌<◌, ◌≤◌, List};
-ghost use Rattle.entries.specs.Lists.{Listed, list_of};
+ghost use Rattle.entries.specs.Lists.{Listed};
 ghost use Rattle.policies.specs.Dealing.{DealtOut};
 ghost use Rattle.policies.specs.Shares.{share_of};
 
@@ -18,16 +18,20 @@ pub fn share_of<P: Policy>(list: &[Entry], depot: u8) -> u32
         .map_or(0, |place| P::share_at(list, place))
 }
 
-/// Deals a list out by a policy: the shelf of every entry becomes its share, and all else in the place stays. The
-/// shelves together hold what they held, whatever the policy, since that is what makes it one. Callers fill the place
-/// with a list.
+/// Deals a list out by a policy: the shelf of every entry becomes its share, and all else of it stays. The shelves
+/// together hold what they held, whatever the policy, since that is what makes it one. Callers fill the place with a
+/// list.
 pub fn deal_out<P: Policy>(place: &mut Entries)
-    requires { Listed (list_of place.old) }
+    requires { Listed place.old }
     ensures { DealtOut P.Policy.share place.old place.new }
 {
-    let before = *place;
-    let list = before.as_slice();
-    for i in 0..list.len() {
-        place.items[i].shelf = P::share_at(list, i);
+    let list = place.as_slice();
+    let mut dealt = Entries::empty();
+    for (at, entry) in list.iter().enumerate() {
+        dealt.push(Entry {
+            shelf: P::share_at(list, at),
+            ..*entry
+        });
     }
+    *place = dealt;
 }
