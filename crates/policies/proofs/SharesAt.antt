@@ -3,6 +3,7 @@ use Rattle.std.proofs.Common.{◌≡◌, ℕ, zero, suc, ◌+◌, ◌-◌, ◌/�
 use Rattle.std.proofs.lemmas.List.Sums.{get_or-le-sum_by}
 use Rattle.std.proofs.lemmas.Bool.Decides.{nat_tests}
 use Rattle.entries.specs.declared.lists.Entry.{Entry}
+use Rattle.entries.specs.Limits.{max_pool}
 use Rattle.entries.specs.Lists.{pool, Listed}
 use Rattle.policies.specs.Shares.{evenly, dealt_out, added, grants, rest, wishes_first}
 use Rattle.policies.specs.Granting.{same_length, wishes_size, wishes_conserves}
@@ -31,9 +32,10 @@ pub wishes_first_at : (es : List Entry) (place : ℕ) → get_or (wishes_first e
 unfolding wishes_first
 wishes_first_at es place = added_at (grants (pool es) es) (dealt_out (rest (pool es) es) (length es)) place (same_length es)
 
--- no share passes the pool
+-- the two parts of a share together keep within the limit of the pool
 pub wishes_within : (es : List Entry) (place : ℕ) → Listed es → place < length es
-    → get_or (wishes_first es) place 0 ≤ pool es
+    → get_or (grants (pool es) es) place 0 + get_or (dealt_out (rest (pool es) es) (length es)) place 0 ≤ max_pool
 wishes_within es place listed within =
     let here : place < length (wishes_first es) = omega (arith, wishes_size es listed) in
-    omega (arith, get_or-le-sum_by (λ n. n) (wishes_first es) place 0 here, wishes_conserves es listed)
+    let most = get_or-le-sum_by (λ n. n) (wishes_first es) place 0 here in
+    omega (arith, wishes_first_at es place, most, wishes_conserves es listed, listed.sum_within)

@@ -28,6 +28,7 @@ pub fn deal(pieces: u32, entries: usize) -> (u32, u32)
 
 /// The share at a place where pieces are dealt out among entries: what each gets, and one piece more at as many leading
 /// places as pieces are left over. Both policies have the place from their caller, who gives one of a list's places.
+#[tactic(auto, using(crate::proofs::SharesAt::dealt_out_at))]
 pub(crate) fn dealt_at(pieces: u32, entries: usize, place: usize) -> u32
     requires { place < entries }
     ensures { result ≡ slice_index (dealt_out pieces entries) place }

@@ -24,6 +24,7 @@ impl Policy for Level {
 
     ghost conserves = { level_conserves };
 
+    #[tactic(auto, unfolding(crate::specs::Shares::level))]
     fn share_at(list: &[Entry], place: usize) -> u32 {
         dealt_at(pieces_of(list), list.len(), place)
     }

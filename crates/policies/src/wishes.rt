@@ -24,6 +24,7 @@ fn left_after(list: &[Entry], pieces: u32) -> u32
 }
 
 /// What the entry at a place is granted where all have their turn at the pieces, and what is left after the last turn.
+#[tactic(auto, using(crate::proofs::Turns::grant_at, crate::proofs::Turns::rest_split))]
 fn granted_at(list: &[Entry], place: usize, pieces: u32) -> (u32, u32)
     requires { place < length list.now }
     ensures mine { result.0 ≡ slice_index (grants pieces list.now) place }
@@ -51,6 +52,7 @@ impl Policy for WishesFirst {
 
     ghost conserves = { wishes_conserves };
 
+    #[tactic(auto, using(crate::proofs::SharesAt::wishes_first_at, crate::proofs::SharesAt::wishes_within))]
     fn share_at(list: &[Entry], place: usize) -> u32 {
         let (mine, left) = granted_at(list, place, pieces_of(list));
         mine + dealt_at(left, list.len(), place)
