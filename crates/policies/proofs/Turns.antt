@@ -1,5 +1,5 @@
 -- Turns at the pieces, one after the other: what a list leaves is what its end leaves of what its beginning left.
-use Rattle.std.proofs.Common.{◌≡◌, ℕ, zero, suc, ◌-◌, ◌<◌, List, [], ◌∷◌, ◌++◌, fold, length, get_or, take, drop, refl, arith}
+use Rattle.std.proofs.Common.{◌≡◌, ℕ, zero, suc, ◌-◌, ◌<◌, List, [], ◌∷◌, ◌++◌, length, get_or, take, drop, refl, arith}
 use Rattle.entries.specs.declared.lists.Entry.{Entry}
 use Rattle.entries.specs.Lists.{blank}
 use Rattle.policies.specs.Shares.{granted, grants, rest}
@@ -20,7 +20,3 @@ pub grant_at : (left : ℕ) (es : List Entry) (place : ℕ) → place < length e
 grant_at left [] place within = absurd (omega arith)
 grant_at left (e ∷ es) zero within = refl
 grant_at left (e ∷ es) (suc place) within = grant_at (left - granted e.wish left) es place (omega arith)
-
-pub folded : (left : ℕ) (es : List Entry) → fold (λ left e. left - granted e.wish left) left es ≡ rest left es
-folded left [] = refl
-folded left (e ∷ es) = folded (left - granted e.wish left) es

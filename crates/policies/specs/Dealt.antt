@@ -1,5 +1,5 @@
 -- Level is lawful: dealing out gives k shares, which together are all the pieces, since the quotient k times and the
--- remainder are.
+-- remainder are. It stands in specs/, since an impl takes no proof of a law from proofs/.
 use Rattle.std.specs.Prelude.{◌≡◌, ℕ, zero, suc, ◌+◌, ◌-◌, ◌*◌, ◌/◌, ◌%◌, ◌<◌, ◌≤◌, cond, length, sum, nat_lt, refl}
 use Rattle.std.proofs.Common.{ap, ◌∙◌, suc-mul, zero-mul, mod-lt, arith}
 use Rattle.std.proofs.Math.Nat.{div-add-mod}

@@ -1,5 +1,5 @@
 -- Wishes First is lawful: what is granted and what is left are together what there was, and what is left is dealt out
--- level and added.
+-- level and added. It stands in specs/, since an impl takes no proof of a law from proofs/.
 use Rattle.std.specs.Prelude.{◌≡◌, ℕ, suc, ◌+◌, ◌-◌, ◌<◌, ◌≤◌, List, [], ◌∷◌, length, sum, refl}
 use Rattle.std.proofs.Common.{sym, ap, ◌∙◌}
 use native.Mathlib.Omega.{arith}

@@ -19,11 +19,11 @@ pub fn pieces_of(list: &[Entry]) -> u32
 pub fn deal(pieces: u32, entries: usize) -> (u32, u32)
     ensures { result ≡ (pieces / entries, pieces % entries) }
 {
-    if entries == 0 {
-        return (0, pieces);
+    match u32::try_from(entries) {
+        // Entries past a u32 are more than the pieces, so that none gets one.
+        Ok(0) | Err(_) => (0, pieces),
+        Ok(entries) => (pieces / entries, pieces % entries),
     }
-    let all = pieces as usize;
-    ((all / entries) as u32, (all % entries) as u32)
 }
 
 /// The share at a place where pieces are dealt out among entries: what each gets, and one piece more at as many leading
@@ -34,6 +34,7 @@ pub(crate) fn dealt_at(pieces: u32, entries: usize, place: usize) -> u32
     ensures { result ≡ slice_index (dealt_out pieces entries) place }
 {
     let (each, more) = deal(pieces, entries);
+    // `as`: the library has no From<u32> for usize, and TryFrom would add a case that cannot happen.
     if place < more as usize {
         each + 1
     } else {

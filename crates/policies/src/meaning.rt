@@ -7,8 +7,8 @@ ghost use Rattle.policies.specs.Policy.{Coded, OneEach, Conserving};
 use entries::Entry;
 
 /// A sharing policy: one share for each entry of a list, worked out from the list alone. Whoever writes one shows that
-/// its code lies in its range, that a list has a share for each entry, that these are together what its shelves hold, and
-/// that `share_at` answers what it means. Nothing more is known of it elsewhere.
+/// its code lies in its range, that a list has a share for each entry, that these are together what its shelves hold,
+/// and that `share_at` answers what it means. Nothing more is known of it elsewhere.
 pub trait Policy {
     /// The policy's code, 1 to 255, which records and letters carry.
     const CODE: u8;

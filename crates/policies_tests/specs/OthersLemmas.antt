@@ -1,11 +1,12 @@
 -- The policies of others are lawful: shelves that stay are what they are, and one entry that gets all gets all.
-use Rattle.std.specs.Prelude.{◌≡◌, ℕ, zero, suc, ◌+◌, ◌<◌, cond, List, [], ◌∷◌, length, sum, ◌==◌, slice_index, slice_index_or, refl}
+-- They stand in specs/, since an impl takes no proof of a law from proofs/.
+use Rattle.std.specs.Prelude.{◌≡◌, ℕ, suc, ◌<◌, cond, List, [], ◌∷◌, length, sum, ◌==◌, refl}
 use Rattle.std.proofs.Common.{ap, arith}
-use Rattle.std.proofs.lemmas.List.{length-map, get_or-map}
+use Rattle.std.proofs.lemmas.List.{length-map}
 use Rattle.std.proofs.lemmas.List.Sums.{sum_by-cons, sum-map}
 use Rattle.std.proofs.lemmas.Bool.Decides.{nat_tests}
 use Rattle.entries.specs.declared.lists.Entry.{Entry}
-use Rattle.entries.specs.Lists.{blank, pool}
+use Rattle.entries.specs.Lists.{pool}
 use Rattle.policies.specs.Policy.{OneEach, Conserving}
 use Rattle.policies_tests.specs.Others.{kept, to_last, last_takes_all}
 
@@ -16,10 +17,6 @@ kept_size es listed = length-map es (λ e. e.shelf)
 pub kept_conserves : Conserving kept
 unfolding kept
 kept_conserves es listed = sum-map (λ e. e.shelf) es
-
-pub kept_at : (es : List Entry) (place : ℕ) → place < length es → (slice_index_or es place blank).shelf ≡ slice_index (kept es) place
-unfolding kept
-kept_at es place within = let here = get_or-map (λ e. e.shelf) es place blank 0 within in omega arith
 
 last_length : (pieces : ℕ) (es : List Entry) → length (to_last pieces es) ≡ length es
 unfolding to_last
@@ -35,15 +32,6 @@ last_sum pieces (e ∷ (f ∷ es)) some =
     let first = sum_by-cons (λ n. n) (cond (length (f ∷ es) == 0) pieces 0) (to_last pieces (f ∷ es)) in
     grind (arith, nat_tests)
 
-last_place : (pieces : ℕ) (es : List Entry) (place : ℕ) → place < length es
-    → slice_index (to_last pieces es) place ≡ cond (place + 1 == length es) pieces 0
-unfolding to_last
-last_place pieces [] place within = absurd (omega arith)
-last_place pieces (e ∷ es) zero within = grind (arith, nat_tests)
-last_place pieces (e ∷ es) (suc place) within =
-    let others = last_place pieces es place (omega arith) in
-    grind (arith, nat_tests)
-
 pub last_size : OneEach last_takes_all
 unfolding last_takes_all
 last_size es listed = last_length (pool es) es
@@ -51,8 +39,3 @@ last_size es listed = last_length (pool es) es
 pub last_conserves : Conserving last_takes_all
 unfolding last_takes_all
 last_conserves es listed = last_sum (pool es) es (omega (arith, listed.two))
-
-pub last_at : (es : List Entry) (place : ℕ) → place < length es
-    → slice_index (last_takes_all es) place ≡ cond (place + 1 == length es) (pool es) 0
-unfolding last_takes_all
-last_at es place within = last_place (pool es) es place within

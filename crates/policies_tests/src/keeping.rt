@@ -23,6 +23,7 @@ impl Policy for Keep {
 
     ghost conserves = { kept_conserves };
 
+    #[tactic(auto, using(crate::proofs::OthersAt::kept_at))]
     fn share_at(list: &[Entry], place: usize) -> u32 {
         list[place].shelf
     }

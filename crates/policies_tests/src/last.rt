@@ -23,6 +23,7 @@ impl Policy for LastTakesAll {
 
     ghost conserves = { last_conserves };
 
+    #[tactic(auto, using(crate::proofs::OthersAt::last_at))]
     fn share_at(list: &[Entry], place: usize) -> u32 {
         if place + 1 == list.len() {
             pieces_of(list)

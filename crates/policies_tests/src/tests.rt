@@ -8,6 +8,7 @@ use entries::{Entries, Entry, MAX_POOL, entry_of, is_list, pool_of};
 use policies::{Level, Policy, WishesFirst, deal, deal_out, share_of};
 use std::test::Fail;
 
+// Written out, each entry below would take five lines.
 fn entry(depot: u8, shelf: u32, wish: u32) -> Entry {
     Entry { depot, shelf, wish }
 }
@@ -16,11 +17,7 @@ fn entry(depot: u8, shelf: u32, wish: u32) -> Entry {
 fn share<P: Policy>(es: &[Entry], depot: u8) -> Option<u32>
     ensures { Listed es.now → result ≡ Some (share_of P.Policy.share es.now depot) }
 {
-    if is_list(es) {
-        Some(share_of::<P>(es, depot))
-    } else {
-        None
-    }
+    is_list(es).then(|| share_of::<P>(es, depot))
 }
 
 /// Three depots, of which the last wishes for six pieces.
@@ -86,8 +83,8 @@ fn policies_of_others(rt: HostRuntime) {
 /// Sixteen depots that each wish for the most, with a sixteenth of the most on every shelf but the first.
 fn sixteen(first: u32) -> [Entry; 16] {
     let mut list = [entry(0, MAX_POOL / 16, 1_000_000); 16];
-    for i in 0..16u8 {
-        list[i as usize].depot = i;
+    for (next, depot) in list.iter_mut().zip(0..) {
+        next.depot = depot;
     }
     list[0].shelf = first;
     list
@@ -113,10 +110,7 @@ fn sixteen_entries_at_their_limits(rt: HostRuntime) {
 
 /// A list in a place, dealt out; none where the entries are no list.
 fn dealt<P: Policy>(entries: &[Entry]) -> Option<Entries> {
-    let mut place = Entries::empty();
-    for next in entries {
-        place.insert(*next).ok()?;
-    }
+    let mut place = Entries::of(entries);
     if !is_list(place.as_slice()) {
         return None;
     }
