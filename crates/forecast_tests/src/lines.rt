@@ -1,11 +1,11 @@
 // Which bytes are a number, which value it has, and what is left.
-use text_lines::Reader;
+use text_lines::{Mark, Reader};
 
 // What reading a number from these bytes answers, and whether another byte stands next.
 fn read(bytes: &[u8]) -> (Option<u64>, bool, bool) {
     let mut reader = Reader::new(bytes);
     let number = reader.number();
-    let blank = reader.blank();
+    let blank = reader.passes(Mark::Blank);
     (number, blank, reader.is_done())
 }
 
@@ -36,9 +36,9 @@ fn no_numbers(rt: HostRuntime) {
 fn a_line(rt: HostRuntime) {
     let mut reader = Reader::new(b"5 x\n1\n");
     assert_eq!(rt; reader.number(), Some(5));
-    assert!(rt; !reader.line_end());
-    assert!(rt; reader.blank());
-    assert!(rt; !reader.blank());
+    assert!(rt; !reader.passes(Mark::LineEnd));
+    assert!(rt; reader.passes(Mark::Blank));
+    assert!(rt; !reader.passes(Mark::Blank));
     assert_eq!(rt; reader.number(), None);
     assert!(rt; !reader.is_done());
 }
@@ -47,10 +47,10 @@ fn a_line(rt: HostRuntime) {
 fn the_end_of_a_line(rt: HostRuntime) {
     let mut reader = Reader::new(b"12\n3");
     assert_eq!(rt; reader.number(), Some(12));
-    assert!(rt; !reader.blank());
-    assert!(rt; reader.line_end());
-    assert!(rt; !reader.line_end());
+    assert!(rt; !reader.passes(Mark::Blank));
+    assert!(rt; reader.passes(Mark::LineEnd));
+    assert!(rt; !reader.passes(Mark::LineEnd));
     assert_eq!(rt; reader.number(), Some(3));
-    assert!(rt; !reader.line_end());
+    assert!(rt; !reader.passes(Mark::LineEnd));
     assert!(rt; reader.is_done());
 }

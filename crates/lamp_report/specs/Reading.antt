@@ -1,8 +1,6 @@
 -- What reading a sheet answers.
 use Rattle.std.specs.Prelude.{◌≡◌, ℕ, ◌+◌, List, ◌++◌, length, Some, None, Ok, Err, Option, Result}
 use Rattle.std.specs.List.{AllByRecursion}
-use Rattle.text_lines.specs.declared.Reader.{Reader}
-use Rattle.text_lines.specs.Reading.{left}
 use Rattle.lamp_report.specs.declared.sheet.Fault.{Fault}
 use Rattle.lamp_report.specs.declared.sheet.Fault.TheVariants as faults
 use Rattle.lamp_report.specs.declared.sheet.Sheet.{Sheet}
@@ -31,7 +29,7 @@ Answers bytes (Err (faults.Line n)) = Misreads n bytes
 Answers bytes (Err faults.Memory) = Unit {0}
 Answers bytes (Err (faults.Lamps refusal)) = ⊥
 
--- the two numbers of the line that comes next and a reader past it, or none where there is no such line
-abbrev pub FindsLine : List ℕ → Option (ℕ × ℕ × Reader) → Type 0
-FindsLine bytes None = NoLine bytes
-FindsLine bytes (Some found) = Line (found.0, found.1) (left found.2) bytes
+-- the two numbers of the line that comes next, and what is left past it; or none where there is no such line
+abbrev pub FindsLine : List ℕ → Option (ℕ × ℕ) → List ℕ → Type 0
+FindsLine bytes None rest = NoLine bytes
+FindsLine bytes (Some numbers) rest = Line numbers rest bytes

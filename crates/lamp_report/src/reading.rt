@@ -6,23 +6,23 @@ ghost use Rattle.lamp_report.specs.Reading.{Answers, FindsLine};
 use crate::sheet::{Fault, Sheet};
 use forecast::Lamp;
 use std::alloc::Global;
-use text_lines::Reader;
+use text_lines::{Mark, Reader};
 
 /// The sheet that the bytes are: a line with shelf and period, then a line with hours and life for each lamp. It
 /// refuses the first line of another form, with its number; a missing first line is such a line too.
 pub fn read_sheet(heap: Global, bytes: &[u8]) -> Result<Sheet, Fault>
     ensures { Answers bytes.now result }
 {
-    let Some((shelf, period, mut reader)) = two_numbers(Reader::new(bytes)) else {
+    let mut reader = Reader::new(bytes);
+    let Some((shelf, period)) = two_numbers(&mut reader) else {
         return Err(Fault::Line(1));
     };
     let mut lamps = Vec::new(heap);
     while !reader.is_done() {
-        let Some((hours, life, next)) = two_numbers(reader) else {
+        let Some((hours, life)) = two_numbers(&mut reader) else {
             return Err(Fault::Line(lamps.len() + 2));
         };
         lamps.push(Lamp { hours, life })?;
-        reader = next;
     }
     Ok(Sheet {
         shelf,
@@ -31,22 +31,17 @@ pub fn read_sheet(heap: Global, bytes: &[u8]) -> Result<Sheet, Fault>
     })
 }
 
-// The two numbers of the line that comes next, with the reader past it; none where no line of two numbers comes next.
-fn two_numbers(start: Reader<'_>) -> Option<(u64, u64, Reader<'_>)>
-    ensures { FindsLine (left start.entry) result }
+// The two numbers of the line that comes next, and goes past it; none where no line of two numbers comes next.
+fn two_numbers(reader: &mut Reader<'_>) -> Option<(u64, u64)>
+    ensures { FindsLine (left reader.old) result (left reader.new) }
 {
-    let mut reader = start;
-    let Some(first) = reader.number() else {
-        return None;
-    };
-    if !reader.blank() {
+    let first = reader.number()?;
+    if !reader.passes(Mark::Blank) {
         return None;
     }
-    let Some(second) = reader.number() else {
-        return None;
-    };
-    if !reader.line_end() {
+    let second = reader.number()?;
+    if !reader.passes(Mark::LineEnd) {
         return None;
     }
-    Some((first, second, reader))
+    Some((first, second))
 }

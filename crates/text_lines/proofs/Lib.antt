@@ -1,3 +1,2 @@
 mod Digits
-mod FirstByte
 pub mod Spelling

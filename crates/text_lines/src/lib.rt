@@ -6,11 +6,29 @@ ghost use Rattle.std.specs.Prelude.{◌≡◌, ◌≤◌, true, length, ◌==◌
 ghost use Rattle.std.specs.Char.{is_ascii_digit};
 ghost use Rattle.std.specs.List.{prefix_len};
 ghost use Rattle.std.specs.Str.{all_ascii_digits};
-ghost use Rattle.text_lines.specs.Numbers.{is_number, max_digits, number_at, OneForm, past_number, value_of};
-ghost use Rattle.text_lines.specs.Reading.{blank, begins_with, left, line_end, past_byte};
+ghost use Rattle.text_lines.specs.Numbers.{digits_at, is_number, max_digits, number_at, OneForm, past_digits, past_number, value_of};
+ghost use Rattle.text_lines.specs.Reading.{begins_with, byte_of, left, past_byte};
 
 /// The most digits that a number has.
 const MAX_DIGITS: usize = 10;
+
+/// A byte between words: the blank between two of them, and the end of a line.
+#[derive(Clone, Copy, PartialEq, Eq, Debug)]
+pub enum Mark {
+    Blank,
+    LineEnd,
+}
+
+impl From<Mark> for u8 {
+    ghost from_gives = { λ mark byte. byte ≡ byte_of mark };
+
+    fn from(mark: Mark) -> u8 {
+        match mark {
+            Mark::Blank => b' ',
+            Mark::LineEnd => b'\n',
+        }
+    }
+}
 
 /// A reader over bytes: what is left to read.
 #[derive(Clone, Copy)]
@@ -40,7 +58,7 @@ impl<'a> Reader<'a> {
         ensures past { left self.new ≡ past_number (left self.old) }
         ensures form { OneForm (left self.old) result (left self.new) }
     {
-        let (digits, after) = self.rest.split_at(count_digits(self.rest));
+        let (digits, after) = split_digits(self.rest);
         if !is_number(digits) {
             return None;
         }
@@ -48,31 +66,15 @@ impl<'a> Reader<'a> {
         Some(digits_value(digits))
     }
 
-    /// Whether the blank between two words comes next, and goes past it. Where it does not, nothing is read.
-    pub fn blank(&mut self) -> bool
-        ensures found { result ≡ begins_with blank (left self.old) }
-        ensures past { left self.new ≡ past_byte blank (left self.old) }
+    /// Whether this mark comes next, and goes past it. Where it does not, nothing is read.
+    pub fn passes(&mut self, mark: Mark) -> bool
+        ensures found { result ≡ begins_with (byte_of mark) (left self.old) }
+        ensures past { left self.new ≡ past_byte (byte_of mark) (left self.old) }
     {
-        self.byte(b' ')
-    }
-
-    /// Whether the end of the line comes next, and goes past it. Where it does not, nothing is read.
-    pub fn line_end(&mut self) -> bool
-        ensures found { result ≡ begins_with line_end (left self.old) }
-        ensures past { left self.new ≡ past_byte line_end (left self.old) }
-    {
-        self.byte(b'\n')
-    }
-
-    // Whether this byte comes next, and goes past it.
-    fn byte(&mut self, wanted: u8) -> bool
-        ensures found { result ≡ begins_with wanted (left self.old) }
-        ensures past { left self.new ≡ past_byte wanted (left self.old) }
-    {
-        let [first, rest @ ..] = self.rest else {
+        let Some((first, rest)) = self.rest.split_first() else {
             return false;
         };
-        if *first != wanted {
+        if *first != u8::from(mark) {
             return false;
         }
         self.rest = rest;
@@ -80,26 +82,30 @@ impl<'a> Reader<'a> {
     }
 }
 
+// The digits that the bytes begin with, and what follows them.
+fn split_digits(bytes: &[u8]) -> (&[u8], &[u8])
+    ensures digits { result.0.now ≡ digits_at bytes.now }
+    ensures after { result.1.now ≡ past_digits bytes.now }
+{
+    bytes.split_at(count_digits(bytes))
+}
+
 // How many digits the bytes begin with.
 fn count_digits(bytes: &[u8]) -> usize
-    ensures { result ≡ prefix_len is_ascii_digit bytes.now }
+    ensures count { result ≡ prefix_len is_ascii_digit bytes.now }
+    ensures within { result ≤ length bytes.now }
 {
-    let mut count = 0;
-    for byte in bytes {
-        if !byte.is_ascii_digit() {
-            return count;
-        }
-        count += 1;
-    }
-    count
+    bytes
+        .iter()
+        .take_while(|byte| byte.is_ascii_digit())
+        .count()
 }
 
 // Whether digits are a number: one to ten of them, and no zero in front unless it stands alone.
 fn is_number(digits: &[u8]) -> bool
     ensures { result ≡ is_number digits.now }
 {
-    let count = digits.len();
-    0 < count && count <= MAX_DIGITS && (count == 1 || digits[0] != b'0')
+    !matches!(digits, [] | [b'0', _, ..]) && digits.len() <= MAX_DIGITS
 }
 
 // The value of at most ten digits.
@@ -108,6 +114,7 @@ fn digits_value(digits: &[u8]) -> u64
     requires each { all_ascii_digits digits.now ≡ true }
     ensures { result ≡ value_of digits.now }
 {
+    // A `fold` was tried: nothing bounds its value before each call, so that what the closure needs was not proved.
     let mut value = 0;
     for digit in digits {
         value = value * 10 + u64::from(*digit - b'0');

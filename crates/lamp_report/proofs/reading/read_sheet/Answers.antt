@@ -8,10 +8,9 @@ use Rattle.lamp_report.proofs.reading.read_sheet.Goals as goal
 pub loop-reader-init : goal.loop-reader-init
 loop-reader-init c =
     let first = c.in-Some in
-    first_line first.shelf first.period (vec_items c.new-lamps.result) (left first.reader)
-    c.args.bytes.now
-    c.new-lamps.ensures.items
-    (subst (Line (first.shelf, first.period) (left first.reader)) c.new.ensures first.ensures)
+    let rest = left c.two_numbers.new.reader in
+    first_line first.shelf first.period (vec_items c.new-lamps.result) rest c.args.bytes.now c.new-lamps.ensures.items
+    (subst (Line (first.shelf, first.period) rest) c.new-reader.ensures first.ensures)
 
 pub returns-in_default-two_numbers : goal.returns-in_default-two_numbers
 returns-in_default-two_numbers c =
@@ -23,13 +22,13 @@ returns-in_default-two_numbers c =
 
 pub loop-reader-smaller : goal.loop-reader-smaller
 loop-reader-smaller c =
-    shorter _ (left c.in-Some-two_numbers.next) (left c.loop-reader.reader) c.in-Some-two_numbers.ensures
+    shorter _ (left c.two_numbers-in-loop-reader.new.reader) (left c.loop-reader.reader) c.in-Some-two_numbers.ensures
 
 pub loop-reader-preserved : goal.loop-reader-preserved
 loop-reader-preserved c =
     lamp_more c.in-Some.shelf c.in-Some.period (vec_items c.loop-reader.lamps)
     (vec_items c.push.new.self) _
-    (left c.loop-reader.reader) (left c.in-Some-two_numbers.next) c.args.bytes.now
+    (left c.loop-reader.reader) (left c.two_numbers-in-loop-reader.new.reader) c.args.bytes.now
     c.in_ok-push.ensures.items c.loop-reader.invariant c.in-Some-two_numbers.ensures
 
 pub returns : goal.returns
