@@ -53,6 +53,7 @@ impl<'a> Reader<'a> {
 
     /// The number that comes next, and goes past it. None where the digits that come next are not one to ten, or begin
     /// with a zero that does not stand alone; nothing is read then.
+    #[tactic(auto, using(crate::proofs::Digits::front_digits, crate::proofs::Spelling::none_written))]
     pub fn number(&mut self) -> Option<u64>
         ensures value { result ≡ number_at (left self.old) }
         ensures past { left self.new ≡ past_number (left self.old) }
