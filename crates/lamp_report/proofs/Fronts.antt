@@ -1,7 +1,7 @@
 -- Lines read so far and the bytes that are left: one line more moves from the bytes to the lines.
 use Rattle.std.proofs.Common.{◌≡◌, ℕ, ◌+◌, ◌<◌, List, [], ◌∷◌, ◌++◌, length, decimal, sym, ap, ◌∙◌, subst, append_assoc, arith, length-append}
 use lib.ListN.{length-map}
-use Rattle.std.proofs.ByRecursion.{All-push}
+use Rattle.std.proofs.lemmas.List.Elements.{All-from_recursion, All-push, recursion_from_All}
 use Rattle.std.proofs.lemmas.List.{append-nil, flat_map_more, map_push, nil_from_length}
 use Rattle.std.specs.List.{AllByRecursion}
 use Rattle.forecast.specs.declared.lamp.Lamp.{Lamp}
@@ -34,7 +34,8 @@ line_more lines numbers left rest bytes front line =
     let lines_more : lines_of lines ++ line_of numbers ≡ lines_of (lines ++ numbers ∷ [])
     = flat_map_more line_of [] lines numbers in
     record {
-      short = All-push Short lines numbers front.short line.short;
+      short = recursion_from_All Short (lines ++ numbers ∷ [])
+          (All-push Short lines numbers (All-from_recursion Short lines front.short) line.short);
       same = front.same ∙ (ap (λ bs. lines_of lines ++ bs) next
           ∙ (sym (append_assoc (lines_of lines) (line_of numbers) rest) ∙ ap (λ bs. bs ++ rest) lines_more));
     }

@@ -34,26 +34,30 @@ Does bytes (Err faults.Memory) = Unit {0}
 abbrev pub expected_text : ℕ → List ℕ
 expected_text n = cond (n == 1) (codes "shelf and period in hours") (codes "a lamp's hours burned and rated life")
 
--- what a storeman is told of a line of another form
-abbrev pub line_fault_text : ℕ → List ℕ → List ℕ
-line_fault_text n expected =
+-- why there is no answer: a line of another form
+abbrev pub line_reason : ℕ → List ℕ → List ℕ
+line_reason n expected =
     codes "line " ++ (decimal n ++ (codes ": expected " ++ (expected
-    ++ codes ", two numbers of at most ten digits, one blank apart\n")))
+    ++ codes ", two numbers of at most ten digits, one blank apart")))
 
--- what a storeman is told of an unlawful lamp
-abbrev pub lamp_fault_text : ℕ → List ℕ
-lamp_fault_text place =
+-- an unlawful lamp
+abbrev pub lamp_reason : ℕ → List ℕ
+lamp_reason place =
     codes "refused (37): lamp at place " ++ (decimal place
-    ++ codes ", counted from 0: a life must be 1 to 65535 hours and the hours burned at most 1000000\n")
+    ++ codes ", counted from 0: a life must be 1 to 65535 hours and the hours burned at most 1000000")
 
--- what a storeman is told of lamps or a period that are refused
-abbrev pub refusal_text : Refusal → List ℕ
-refusal_text refusals.TooManyLamps = codes "refused (35): more than 1000 lamps\n"
-refusal_text refusals.PeriodTooLong = codes "refused (36): line 1: a period above 10000 hours\n"
-refusal_text (refusals.UnlawfulLamp place) = lamp_fault_text place
+-- lamps or a period that are refused
+abbrev pub refusal_reason : Refusal → List ℕ
+refusal_reason refusals.TooManyLamps = codes "refused (35): more than 1000 lamps"
+refusal_reason refusals.PeriodTooLong = codes "refused (36): line 1: a period above 10000 hours"
+refusal_reason (refusals.UnlawfulLamp place) = lamp_reason place
 
--- what a storeman is told where there is no answer
+-- any of them
+abbrev pub reason : Fault → List ℕ
+reason faults.Memory = codes "out of memory"
+reason (faults.Line n) = line_reason n (expected_text n)
+reason (faults.Lamps refusal) = refusal_reason refusal
+
+-- what a storeman is told where there is no answer: the reason, as a line
 abbrev pub fault_text : Fault → List ℕ
-fault_text faults.Memory = codes "out of memory\n"
-fault_text (faults.Line n) = line_fault_text n (expected_text n)
-fault_text (faults.Lamps refusal) = refusal_text refusal
+fault_text fault = reason fault ++ codes "\n"
