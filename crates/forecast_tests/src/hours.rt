@@ -5,11 +5,7 @@ use std::test::Fail;
 
 // As many lamps with these hours and this life.
 fn lamps(heap: Global, count: usize, hours: u64, life: u64) -> Result<Vec<Lamp>, AllocError> {
-    let mut lamps = Vec::new(heap);
-    for _ in 0..count {
-        lamps.push(Lamp { hours, life })?;
-    }
-    Ok(lamps)
+    vec![in heap; Lamp { hours, life }; count]
 }
 
 // What as many such lamps need over a period, or why they are refused.
@@ -20,10 +16,8 @@ fn need(
     life: u64,
     period: u64,
 ) -> Result<Result<u32, Refusal>, AllocError> {
-    match LampHours::check(lamps(heap, count, hours, life)?, period) {
-        Ok(checked) => Ok(Ok(checked.need())),
-        Err(refusal) => Ok(Err(refusal)),
-    }
+    let lamps = lamps(heap, count, hours, life)?;
+    Ok(LampHours::check(lamps, period).map(|checked| checked.need()))
 }
 
 #[test]
