@@ -34,6 +34,7 @@ impl Lamp {
 }
 
 /// Why lamps and a period are not taken, in the order of the tests.
+// No `Display` here: what is told of a refusal names a line of the sheet, of which only `lamp_report` knows.
 #[derive(Clone, Copy, PartialEq, Eq, Debug)]
 pub enum Refusal {
     /// More than 1,000 lamps: refusal 35.

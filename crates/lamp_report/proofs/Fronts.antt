@@ -86,3 +86,6 @@ misread shelf period lamps rest bytes front some none n count =
       other = none;
       some = λ empty. absurd (omega arith);
     }
+
+-- what reading a sheet takes: the first line, each more, that it shortens what is left, and the two ways to end
+pub ruleset sheet_read = (first_line, lamp_more, shorter, misread, all_read)

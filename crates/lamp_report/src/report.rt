@@ -2,11 +2,9 @@
 ghost use Rattle.std.specs.Prelude.{◌≡◌, IfOk, string_bytes};
 ghost use Rattle.lamp_report.specs.Report.{lamp_lines, report_of};
 
+use crate::sheet::FIRST_LAMP_LINE;
 use forecast::{LampHours, proposed_wish};
 use std::alloc::{AllocError, Global};
-
-/// The line of a sheet that its first lamp stands on.
-const FIRST_LAMP_LINE: usize = 2;
 
 /// The text of the answer: what each lamp needs, the forecast, the shelf and the wish.
 pub fn write_report(heap: Global, hours: &LampHours, shelf: u64) -> Result<String, AllocError>

@@ -8,6 +8,9 @@ use std::alloc::{AllocError, AllocFailed};
 use std::error::Error;
 use std::fmt;
 
+/// The line of a sheet that its first lamp stands on.
+pub(crate) const FIRST_LAMP_LINE: usize = 2;
+
 /// What a depot writes down: the pieces on its shelf, the period in hours that it plans for, and its lamps.
 #[derive(Drop)]
 pub struct Sheet {
@@ -27,7 +30,7 @@ pub enum Fault {
     Lamps(Refusal),
 }
 
-// The impls are written by hand, since what `thiserror` derives has no contract, and the bytes of `explain` have one.
+// The impls are by hand: what `thiserror` derives has no contract, and `answer` and `explain` promise fault and bytes.
 impl fmt::Display for Fault {
     ghost output = { λ fault. Some (reason fault) };
 

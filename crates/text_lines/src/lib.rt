@@ -31,6 +31,7 @@ impl From<Mark> for u8 {
 }
 
 /// A reader over bytes: what is left to read.
+// No `impl Model`, tried: a struct with a lifetime that has one cannot be `Copy`, and callers may copy a reader.
 #[derive(Clone, Copy)]
 pub struct Reader<'a> {
     rest: &'a [u8],
@@ -110,12 +111,13 @@ fn is_number(digits: &[u8]) -> bool
 }
 
 // The value of at most ten digits.
+#[tactic(auto, using(crate::proofs::Digits::value_bound, crate::proofs::Digits::digit_between))]
 fn digits_value(digits: &[u8]) -> u64
     requires few { length digits.now ≤ max_digits }
     requires each { all_ascii_digits digits.now ≡ true }
     ensures { result ≡ value_of digits.now }
 {
-    // A `fold` was tried: nothing bounds its value before each call, so that what the closure needs was not proved.
+    // A `for` and no `fold`: tried, and that each product fits its type, which the invariant says here, did not prove.
     let mut value = 0;
     for digit in digits {
         value = value * 10 + u64::from(*digit - b'0');
