@@ -117,7 +117,6 @@ fn digits_value(digits: &[u8]) -> u64
     requires each { all_ascii_digits digits.now ≡ true }
     ensures { result ≡ value_of digits.now }
 {
-    // A `for` and no `fold`: tried, and that each product fits its type, which the invariant says here, did not prove.
     let mut value = 0;
     for digit in digits {
         value = value * 10 + u64::from(*digit - b'0');
