@@ -1,6 +1,7 @@
 -- What reading answers, at each of its exits: the tests before the exit passed, so the first that fails is the one that
 -- the exit tells.
-use Rattle.std.proofs.Common.{◌≡◌, ℕ, ◌-◌, ◌/◌, ◌≤◌, List, ◌++◌, length, take, drop, IfOk, Some, None, Ok, Err, Option, Result, sym}
+use Rattle.std.proofs.Common.{◌≡◌, ℕ, ◌-◌, ◌/◌, ◌≤◌, List, ◌++◌, length, take, drop, IfOk, Ok, Err, Option, Result, sym, ap, ◌∙◌}
+use Rattle.std.specs.Option.{option_or}
 use Rattle.std.proofs.lemmas.Bool.{le-leb, eq-eqb}
 use Rattle.std.proofs.lemmas.List.{take_rest}
 use Rattle.letters.specs.declared.fault.Unread.{Unread}
@@ -10,50 +11,26 @@ use Rattle.letters.specs.Format.{letter_mark, mark_len, to_len, number_len, head
 use Rattle.letters.specs.Bytes.{Bytes, at, number_in}
 use Rattle.letters.specs.OneForm.{InForm}
 use Rattle.letters.specs.Code.{letter_says, answer_of}
-use Rattle.letters.specs.Reading.{Refusal, Test, first_failed, entries_in, owner_of}
+use Rattle.letters.specs.Reading.{Refusal, first_failed, entries_in, owner_of}
 use Rattle.letters.specs.Reading.{head_tests, entries_tests, rises_tests, sum_tests, value_tests, body_tests}
 use Rattle.letters.specs.Reading.{Answer, answer, reads}
-use Rattle.letters.proofs.Tests.{first_past, first_here}
+use Rattle.letters.proofs.Tests.{failed_join}
 use Rattle.letters.proofs.Forth.{no_other}
 
--- the code's owner of the entries is the one that the tests go by
-module _ (kind sender leader code number : ℕ) (bs : List ℕ)
-    (owner : Option ℕ) (whose : owner ≡ owner_of kind sender) where
-  abbrev head : List Test
-  head = head_tests sender leader code number
-
-  abbrev each : List Test
-  each = entries_tests (length bs / entry_len) (owner_of kind sender) head_len bs
-
-  abbrev order : List Test
-  order = rises_tests 0 head_len (entries_in bs)
-
-  abbrev sum : List Test
-  sum = sum_tests kind (entries_in bs)
-
-  to_each : (v : Option Refusal) → v ≡ first_failed (entries_tests (length bs / entry_len) owner head_len bs) →
-      v ≡ first_failed each
-  to_each v e = rw whose at e
-
-  pub values_each : (r : Refusal) → None ≡ first_failed head →
-      Some r ≡ first_failed (entries_tests (length bs / entry_len) owner head_len bs) →
-      Some r ≡ first_failed (value_tests kind sender leader code number bs)
-  values_each r h e =
-      first_past head (each ++ (order ++ sum)) (Some r) h (first_here each (order ++ sum) r (to_each (Some r) e))
-
-  pub values_order : (r : Refusal) → None ≡ first_failed head →
-      None ≡ first_failed (entries_tests (length bs / entry_len) owner head_len bs) → Some r ≡ first_failed order →
-      Some r ≡ first_failed (value_tests kind sender leader code number bs)
-  values_order r h e o =
-      first_past head (each ++ (order ++ sum)) (Some r) h
-      (first_past each (order ++ sum) (Some r) (to_each None e) (first_here order sum r o))
-
-  pub values_sum : (v : Option Refusal) → None ≡ first_failed head →
-      None ≡ first_failed (entries_tests (length bs / entry_len) owner head_len bs) → None ≡ first_failed order →
-      v ≡ first_failed sum → v ≡ first_failed (value_tests kind sender leader code number bs)
-  values_sum v h e o s =
-      first_past head (each ++ (order ++ sum)) v h
-      (first_past each (order ++ sum) v (to_each None e) (first_past order sum v o s))
+-- the values: what the checks of the head, of each entry, of the order and of the sum answer, one after another
+pub values_failed : (kind sender leader code number : ℕ) (bs : List ℕ) (head each order sum : Option Refusal) →
+    head ≡ first_failed (head_tests sender leader code number) →
+    each ≡ first_failed (entries_tests (length bs / entry_len) (owner_of kind sender) head_len bs) →
+    order ≡ first_failed (rises_tests 0 head_len (entries_in bs)) → sum ≡ first_failed (sum_tests kind (entries_in bs)) →
+    option_or head (option_or each (option_or order sum)) ≡ first_failed (value_tests kind sender leader code number bs)
+values_failed kind sender leader code number bs head each order sum h e o s =
+    let es = entries_tests (length bs / entry_len) (owner_of kind sender) head_len bs in
+    let os = rises_tests 0 head_len (entries_in bs) in
+    let ss = sum_tests kind (entries_in bs) in
+    rw (h, e, o, s)
+    (sym (failed_join (head_tests sender leader code number) (es ++ (os ++ ss))
+    ∙ ap (option_or (first_failed (head_tests sender leader code number))) (failed_join es (os ++ ss)
+    ∙ ap (option_or (first_failed es)) (failed_join os ss))))
 
 -- the head's mark is right: the rest decides, as the code takes it apart
 pub marked_reads : (bs : List ℕ) (to number : ℕ) (a : Answer) → head_len ≤ length bs →

@@ -6,6 +6,5 @@ pub mod Forth
 pub mod Compared
 pub mod Few
 pub mod Steps
-pub mod Copied
 pub mod Answered
 pub mod Written

@@ -1,105 +1,114 @@
--- One entry more: what the reader of entries and the loops of reading go by. What is left of the bytes has one entry
--- less, and its tests, its entries and its sum are those of that entry and of the rest.
-use Rattle.std.proofs.Common.{◌≡◌, ℕ, suc, ◌+◌, ◌-◌, ◌/◌, ◌<◌, ◌≤◌, true, leb, List, ◌∷◌, ◌++◌, length, take, drop, Some, None, Option, sym, refl, ap, ◌∙◌, arith}
-use Rattle.std.proofs.lemmas.List.{drop-drop, take_rest, length-drop}
+-- One entry more: what the reader of entries and the loops of reading go by. The bytes at an entry's front have that
+-- entry and those of the rest, and their tests and their order are those of that entry and of the rest.
+use Rattle.std.proofs.Common.{◌≡◌, ℕ, zero, suc, ◌+◌, ◌/◌, ◌%◌, ◌<◌, ◌≤◌, List, [], ◌∷◌, ◌++◌, length, map, take, drop, Some, Option, Bor, sym, refl, ap, ◌∙◌, arith}
+use Rattle.std.specs.Option.{option_or}
+use Rattle.std.specs.Slice.Iter.{chunks_rest, chunks_size, chunks_steps}
+use Rattle.std.proofs.lemmas.List.{drop-drop, drop_at, take_at, length-drop, length-append, get_or-take}
 use Rattle.std.proofs.lemmas.Bool.{le-leb, lt-leb}
-use Rattle.std.proofs.lemmas.List.Sums.{sum_by-cons}
 use Rattle.entries.specs.declared.lists.Entry.{Entry}
-use Rattle.entries.specs.Lists.{pool}
 use Rattle.letters.specs.declared.entry_reader.EntryReader.{EntryReader}
-use Rattle.letters.specs.Format.{head_len, entry_len}
-use Rattle.letters.specs.Reading.{Refusal, reading, Test, first_failed, entry_in, first_entries, entry_tests}
+use Rattle.letters.specs.Format as format
+use Rattle.letters.specs.Format.{mark_len, wish_len, shelf_len, entry_len}
+use Rattle.letters.specs.Bytes.{number_in}
+use Rattle.letters.specs.Reading.{Refusal, reading, Test, first_failed, entry_in, entries_in, entry_tests}
 use Rattle.letters.specs.Reading.{one_entry_tests, entries_tests, rises_tests}
-use Rattle.letters.specs.Code.{Gave}
-use Rattle.letters.proofs.Tests.{first_past, first_here}
+use Rattle.letters.specs.Code.{placed, Gave, Ended}
+use Rattle.letters.proofs.Tests.{failed_join}
 
--- the entries left after i bytes
-abbrev pub left : ℕ → List ℕ → List Entry
-left i bs = first_entries ((length bs - i) / entry_len) (drop i bs)
+count_more : (bs : List ℕ) → entry_len ≤ length bs → length bs / entry_len ≡ suc (length (drop entry_len bs) / entry_len)
+count_more bs h = omega (arith, length-drop entry_len bs)
 
-count_more : (n i : ℕ) → i + entry_len ≤ n → (n - i) / entry_len ≡ suc ((n - (i + entry_len)) / entry_len)
-count_more n i h = omega arith
+entries_more : (bs : List ℕ) → entry_len ≤ length bs → entries_in bs ≡ entry_in bs ∷ entries_in (drop entry_len bs)
+entries_more bs h = rw (count_more bs h) refl
 
-pub left_more : (i : ℕ) (bs : List ℕ) → i + entry_len ≤ length bs →
-    left i bs ≡ entry_in (drop i bs) ∷ left (i + entry_len) bs
-left_more i bs h = rw (count_more (length bs) i h, drop-drop entry_len i bs) refl
+-- what a reader has left: a step gives its first entry, and at the end there is none
+abbrev pub rest : EntryReader → List Entry
+rest r = entries_in (drop r.offset r.bytes.now)
 
--- the tests on the entries left after i bytes
-abbrev left_tests : Option ℕ → ℕ → List ℕ → List Test
-left_tests owner i bs = entries_tests ((length bs - i) / entry_len) owner (head_len + i) (drop i bs)
+pub rest_more : (i : ℕ) (bs : List ℕ) → i + entry_len ≤ length bs →
+    entries_in (drop i bs) ≡ entry_in (drop i bs) ∷ entries_in (drop (i + entry_len) bs)
+rest_more i bs h =
+    let long : entry_len ≤ length (drop i bs) = omega (arith, length-drop i bs) in
+    rw (entries_more (drop i bs) long, drop-drop entry_len i bs) refl
 
-tests_more : (owner : Option ℕ) (i : ℕ) (bs : List ℕ) → i + entry_len ≤ length bs →
-    left_tests owner i bs ≡ entry_tests owner (head_len + i) (drop i bs) ++ left_tests owner (i + entry_len) bs
-tests_more owner i bs h =
-    let p : head_len + i + entry_len ≡ head_len + (i + entry_len) = omega arith in
-    rw (count_more (length bs) i h, ← p, drop-drop entry_len i bs) refl
+pub rest_gave : (was is : EntryReader) (p : ℕ) (e : Entry) → Gave was p e is → rest was ≡ e ∷ rest is
+rest_gave was is p e g =
+    rest_more was.offset was.bytes.now g.whole ∙ rw (← g.entry, ← g.onward, ← g.same_bytes) refl
 
--- the code's part of the bytes is long enough for an entry, so that one entry's tests are those of an entry
-one_entry : (owner : Option ℕ) (i : ℕ) (bs : List ℕ) (r : Option Refusal) → i + entry_len ≤ length bs →
-    r ≡ first_failed (one_entry_tests owner (head_len + i) (take (length bs - i) (drop i bs))) →
-    r ≡ first_failed (entry_tests owner (head_len + i) (drop i bs))
-one_entry owner i bs r h e =
-    let f : r ≡ first_failed (one_entry_tests owner (head_len + i) (drop i bs)) = rw (take_rest bs i) at e in
-    let long : leb entry_len (length (drop i bs)) ≡ true = le-leb _ _ (omega (arith, length-drop i bs)) in
-    rw long at f
+pub rest_none : (i : ℕ) (bs : List ℕ) → length bs < i + entry_len → entries_in (drop i bs) ≡ []
+rest_none i bs h =
+    let none : length (drop i bs) / entry_len ≡ 0 = omega (arith, length-drop i bs) in
+    rw none refl
 
-pub past_entry : (owner : Option ℕ) (i : ℕ) (bs : List ℕ) (v : Option Refusal) → i + entry_len ≤ length bs →
-    None ≡ first_failed (one_entry_tests owner (head_len + i) (take (length bs - i) (drop i bs))) →
-    first_failed (left_tests owner i bs) ≡ v → first_failed (left_tests owner (i + entry_len) bs) ≡ v
-past_entry owner i bs v h e inv =
-    first_past (entry_tests owner (head_len + i) (drop i bs)) (left_tests owner (i + entry_len) bs) _
-    (one_entry owner i bs None h e) refl
-    ∙ sym (ap first_failed (tests_more owner i bs h)) ∙ inv
+pub rest_ended : (was is : EntryReader) → Ended was is → rest was ≡ []
+rest_ended was is g = rest_none was.offset was.bytes.now g.short
 
-pub entry_refused : (owner : Option ℕ) (i : ℕ) (bs : List ℕ) (v : Option Refusal) (r : Refusal) →
-    i + entry_len ≤ length bs →
-    Some r ≡ first_failed (one_entry_tests owner (head_len + i) (take (length bs - i) (drop i bs))) →
-    first_failed (left_tests owner i bs) ≡ v → Some r ≡ v
-entry_refused owner i bs v r h e inv =
-    first_here (entry_tests owner (head_len + i) (drop i bs)) (left_tests owner (i + entry_len) bs) r
-    (one_entry owner i bs (Some r) h e)
-    ∙ sym (ap first_failed (tests_more owner i bs h)) ∙ inv
+-- the same with the places
+pub left_placed : (p i : ℕ) (bs : List ℕ) (e : Entry) → i + entry_len ≤ length bs → e ≡ entry_in (drop i bs) →
+    placed (p + i) (entries_in (drop i bs))
+    ≡ (p + i, e) ∷ placed (p + (i + entry_len)) (entries_in (drop (i + entry_len) bs))
+left_placed p i bs e h is =
+    let next : p + i + entry_len ≡ p + (i + entry_len) = omega arith in
+    rw (rest_more i bs h, ← next, ← is) refl
 
--- a step of the reader over the bytes bs: was and is are the reader before and after
-module _ (was is : EntryReader) (p : ℕ) (e : Entry) (bs : List ℕ)
-    (g : Gave was p e is) (on : was.bytes.now ≡ bs) where
-  pub whole_on : was.offset + entry_len ≤ length bs
-  whole_on = rw on at g.whole
+pub placed_entries : (p : ℕ) (es : List Entry) → map (λ (x : ℕ × Entry). x.1) (placed p es) ≡ es
+placed_entries p [] = refl
+placed_entries p (e ∷ es) = ap (λ xs. e ∷ xs) (placed_entries (p + entry_len) es)
 
-  pub same_on : is.bytes.now ≡ bs
-  same_on = g.same_bytes ∙ on
+-- an entry's tests read its own bytes alone
+number_front : (width n i : ℕ) (bs : List ℕ) → i + width ≤ n → number_in width (take n bs) i ≡ number_in width bs i
+number_front zero n i bs h = refl
+number_front (suc w) n i bs h =
+    let high = number_front w n i bs (omega arith) in
+    let low = get_or-take n bs (i + w) 0 (omega arith) in
+    cc
 
-  pub within_on : is.offset ≤ length bs
-  within_on = let w = whole_on in omega (arith, g.onward)
+entry_front : (owner : Option ℕ) (p : ℕ) (bs : List ℕ) →
+    entry_tests owner p (take entry_len bs) ≡ entry_tests owner p bs
+entry_front owner p bs =
+    let mark = number_front mark_len entry_len 0 bs (omega arith) in
+    let depot = get_or-take entry_len bs format.depot_at 0 (omega arith) in
+    let wish = number_front wish_len entry_len format.wish_at bs (omega arith) in
+    let shelf = number_front shelf_len entry_len format.shelf_at bs (omega arith) in
+    simp (mark, depot, wish, shelf)
 
-  pub left_on : left was.offset bs ≡ e ∷ left is.offset bs
-  left_on =
-      let f : e ≡ entry_in (drop was.offset bs) = rw on at g.entry in
-      left_more was.offset bs whole_on ∙ rw (← f, ← g.onward) refl
+-- a turn of the check of entries: a chunk was cut off what was left in s, and p is its place
+module _ (owner : Option ℕ) (p : ℕ) (s t : _) (chunk : Bor (List ℕ)) (cut : chunks_steps {A = ℕ} s (Some chunk) t)
+    (size : chunks_size s ≡ entry_len) (whole : length (chunks_rest s) % entry_len ≡ 0) where
+  chunk_long : length chunk.now ≡ entry_len
+  chunk_long = omega (arith, cut.1.1, cut.1.2, size)
 
--- the order: an entry below the least that may come is refused at its place
-pub order_refused : (d o p : ℕ) (e : Entry) (es all : List Entry) (v : Option Refusal) → e.depot < d →
-    p ≡ head_len + o → all ≡ e ∷ es → first_failed (rises_tests d (head_len + o) all) ≡ v → Some (reading 28 p) ≡ v
-order_refused d o p e es all v h place more inv =
-    let bad : first_failed (rises_tests d (head_len + o) (e ∷ es)) ≡ Some (reading 28 (head_len + o)) =
-    rw (lt-leb _ _ h) refl in
-    ap (λ x. Some (reading 28 x)) place ∙ sym bad
-    ∙ ap (λ x. first_failed (rises_tests d (head_len + o) x)) (sym more) ∙ inv
+  pub chunk_left : length (chunks_rest s) ≡ entry_len + length (chunks_rest t)
+  chunk_left = omega (arith, ap length cut.1.0, length-append chunk.now (chunks_rest t), chunk_long)
 
-pub order_passed : (d o n f : ℕ) (e : Entry) (es all : List Entry) (v : Option Refusal) → d ≤ e.depot →
-    n ≡ o + entry_len → f ≡ e.depot → all ≡ e ∷ es → first_failed (rises_tests d (head_len + o) all) ≡ v →
-    first_failed (rises_tests (f + 1) (head_len + n) es) ≡ v
-order_passed d o n f e es all v h next depot more inv =
-    let good : first_failed (rises_tests d (head_len + o) (e ∷ es))
-    ≡ first_failed (rises_tests (e.depot + 1) (head_len + o + entry_len) es) =
-    rw (le-leb _ _ h) refl in
-    let place : head_len + o + entry_len ≡ head_len + (o + entry_len) = omega arith in
-    rw (next, depot, ← place) (sym good ∙ ap (λ x. first_failed (rises_tests d (head_len + o) x)) (sym more) ∙ inv)
+  first : entry_tests owner p (chunks_rest s) ≡ entry_tests owner p chunk.now
+  first =
+      let front : take entry_len (chunks_rest s) ≡ chunk.now =
+      rw cut.1.0 (take_at chunk.now (chunks_rest t) entry_len chunk_long) in
+      sym (entry_front owner p (chunks_rest s)) ∙ ap (entry_tests owner p) front
 
--- the sum
-pub pool_more : (sum v : ℕ) (e : Entry) (es all : List Entry) → all ≡ e ∷ es → sum + pool all ≡ v →
-    sum + e.shelf + pool es ≡ v
-pool_more sum v e es all more inv =
-    let one = sum_by-cons (λ x. x.shelf) e es in
-    let whole = ap pool more in
-    omega arith
+  abbrev rest_tests : List Test
+  rest_tests = entries_tests (length (chunks_rest t) / entry_len) owner (p + entry_len) (chunks_rest t)
+
+  tests_more : entries_tests (length (chunks_rest s) / entry_len) owner p (chunks_rest s)
+      ≡ entry_tests owner p chunk.now ++ rest_tests
+  tests_more =
+      let back : drop entry_len (chunks_rest s) ≡ chunks_rest t =
+      rw cut.1.0 (drop_at chunk.now (chunks_rest t) entry_len chunk_long) in
+      rw (count_more (chunks_rest s) (omega (arith, chunk_left)), back) (ap (λ ts. ts ++ rest_tests) first)
+
+  pub entry_turn : (v : Option Refusal) → v ≡ first_failed (one_entry_tests owner p chunk.now) →
+      option_or v (first_failed rest_tests)
+      ≡ first_failed (entries_tests (length (chunks_rest s) / entry_len) owner p (chunks_rest s))
+  entry_turn v e =
+      let one : v ≡ first_failed (entry_tests owner p chunk.now) = rw chunk_long at e in
+      rw one (sym (ap first_failed tests_more ∙ failed_join (entry_tests owner p chunk.now) rest_tests))
+
+-- a turn of the check of the order: an entry below the least that may come is refused at its place
+pub order_refused : (d p : ℕ) (e : Entry) (es all : List Entry) → e.depot < d → all ≡ e ∷ es →
+    Some (reading 28 p) ≡ first_failed (rises_tests d p all)
+order_refused d p e es all h more = rw (more, lt-leb _ _ h) refl
+
+pub order_past : (d f p n : ℕ) (e : Entry) (es all : List Entry) → d ≤ e.depot → all ≡ e ∷ es → f ≡ e.depot →
+    n ≡ p + entry_len → first_failed (rises_tests (f + 1) n es) ≡ first_failed (rises_tests d p all)
+order_past d f p n e es all h more depot next = rw (more, depot, next, le-leb _ _ h) refl

@@ -1,10 +1,11 @@
 -- Tests one after another: none fails exactly where each passes, and the first that fails of two lists is that of the
 -- first list, or where it has none that of the second.
-use Rattle.std.proofs.Common.{◌≡◌, ℕ, true, List, [], ◌∷◌, ◌++◌, Some, None, Option, sym, refl, inl, inr, arith}
+use Rattle.std.proofs.Common.{◌≡◌, ℕ, true, List, [], ◌∷◌, ◌++◌, Some, None, refl, inl, inr, arith}
 use Rattle.std.specs.List.{AllByRecursion}
+use Rattle.std.specs.Option.{option_or}
 use Rattle.std.proofs.lemmas.Bool.{cases_Bool}
 use Rattle.std.proofs.ByRecursion.{All-append}
-use Rattle.letters.specs.Reading.{Refusal, reading, Test, first_failed}
+use Rattle.letters.specs.Reading.{reading, Test, first_failed}
 
 abbrev pub Passed : List Test → Type 0
 Passed ds = AllByRecursion (λ d. d.passes ≡ true) ds
@@ -31,19 +32,10 @@ pub passed_split : (xs ys : List Test) → Passed (xs ++ ys) → Passed xs × Pa
 passed_split [] ys h = (tt, h)
 passed_split (x ∷ xs) ys h = let r = passed_split xs ys h.1 in ((h.0, r.0), r.1)
 
-pub first_past : (xs ys : List Test) (v : Option Refusal) → None ≡ first_failed xs → v ≡ first_failed ys →
-    v ≡ first_failed (xs ++ ys)
-first_past [] ys v e f = f
-first_past (x ∷ xs) ys v e f =
+pub failed_join : (xs ys : List Test) → first_failed (xs ++ ys) ≡ option_or (first_failed xs) (first_failed ys)
+failed_join [] ys = refl
+failed_join (x ∷ xs) ys =
     elim (cases_Bool x.passes) [
-      | inl y ↦ rw y (first_past xs ys v (rw y at e) f)
-      | inr n ↦ absurd (some_none (reading x.number x.place) (sym (rw n at e)))
-    ]
-
-pub first_here : (xs ys : List Test) (r : Refusal) → Some r ≡ first_failed xs → Some r ≡ first_failed (xs ++ ys)
-first_here [] ys r e = absurd (some_none r e)
-first_here (x ∷ xs) ys r e =
-    elim (cases_Bool x.passes) [
-      | inl y ↦ rw y (first_here xs ys r (rw y at e))
-      | inr n ↦ rw n (rw n at e)
+      | inl y ↦ rw y (failed_join xs ys)
+      | inr n ↦ rw n refl
     ]

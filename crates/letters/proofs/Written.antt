@@ -1,11 +1,9 @@
 -- What is written of a message: entry by entry, each write puts one entry's bytes behind those before and leaves what
 -- follows; then the head before them.
-use Rattle.std.proofs.Common.{◌≡◌, ℕ, ◌+◌, ◌-◌, ◌*◌, ◌<◌, ◌≤◌, List, [], ◌∷◌, ◌++◌, length, get_or, take, drop, sym, refl, ap, ◌∙◌, append_assoc, arith}
+use Rattle.std.proofs.Common.{◌≡◌, ℕ, ◌+◌, ◌-◌, ◌*◌, ◌<◌, List, [], ◌∷◌, ◌++◌, length, get_or, take, drop, sym, refl, ap, ◌∙◌, append_assoc, arith}
 use borrow.Rule.Slice.PartMut.{put_mid}
 use Rattle.std.proofs.lemmas.List.{take_more, take_at, drop_at, drop-drop, length-take-le, take_rest, drop_all, length-drop, append-nil}
 use Rattle.entries.specs.declared.lists.Entry.{Entry}
-use Rattle.entries.specs.declared.lists.Entries.{Entries}
-use Rattle.entries.specs.Lists.{list_of}
 use Rattle.letters.specs.Format.{head_len, entry_len}
 use Rattle.letters.specs.Bytes.{entry_bytes, entries_bytes}
 use Rattle.letters.proofs.Back.{length_entries}
@@ -49,8 +47,3 @@ letter_written head es was front back n l e g =
     let v : back ≡ es ++ drop (head_len + n) was =
     g ∙ ap (λ y. es ++ drop n y) r ∙ ap (λ y. es ++ y) (drop-drop n head_len was) in
     rw (t, z, append-nil, v, e) refl
-
-pub length_placed : (place : Entries) → place.count ≤ length place.items →
-    length (entries_bytes (list_of place)) ≡ entry_len * place.count
-length_placed place h =
-    length_entries (list_of place) ∙ ap (λ x. entry_len * x) (length-take-le place.count place.items h)

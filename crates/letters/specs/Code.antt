@@ -1,5 +1,6 @@
 -- What the values of the code say.
-use Rattle.std.specs.Prelude.{◌≡◌, ℕ, ◌+◌, ◌^◌, ◌<◌, ◌≤◌, List, [], length, drop, Some, None, Ok, Err, Option, Result}
+use Rattle.std.specs.Prelude.{◌≡◌, ℕ, ◌+◌, ◌^◌, ◌<◌, ◌≤◌, true, false, List, [], ◌∷◌, length, drop, Some, None, Ok, Err, Option, Result, MatchResult}
+use Rattle.std.specs.Iterator.{YieldsFirst}
 use Rattle.entries.specs.declared.lists.Entry.{Entry}
 use Rattle.letters.specs.declared.fault.Unreadable.{Unreadable}
 use Rattle.letters.specs.declared.fault.Unreadable.TheVariants as unreadable
@@ -10,13 +11,14 @@ use Rattle.letters.specs.declared.fault.Unwritten.{Unwritten}
 use Rattle.letters.specs.declared.fault.Unwritten.TheVariants as unwritten
 use Rattle.letters.specs.declared.letter.Kind.{Kind}
 use Rattle.letters.specs.declared.letter.Kind.TheVariants as kinds
+use Rattle.letters.specs.declared.letter.UnknownKind.{UnknownKind}
 use Rattle.letters.specs.declared.letter.Head.{Head}
 use Rattle.letters.specs.declared.letter.Letter.{Letter}
 use Rattle.letters.specs.declared.letter.Letter.TheVariants as letters
 use Rattle.letters.specs.declared.entry_reader.EntryReader.{EntryReader}
 use Rattle.letters.specs.Format.{shelf_len, entry_len}
 use Rattle.letters.specs.Contents.{Contents, offer_kind, list_kind, last_kind}
-use Rattle.letters.specs.Reading.{Refusal, reading, handover, Answer, refused, letter, entry_in, entries_in}
+use Rattle.letters.specs.Reading.{Refusal, reading, handover, Answer, refused, letter, is_kind, entry_in, entries_in}
 
 -- the number of each refusal of reading
 abbrev pub number_of : Unreadable → ℕ
@@ -57,6 +59,12 @@ kind_number kinds.Settle = 6
 kind_number kinds.Drop = 7
 kind_number kinds.Query = 8
 kind_number kinds.Done = last_kind
+
+-- the kind with the number, or the number where no kind has it
+abbrev pub KindOf : ℕ → Result Kind UnknownKind → Type 0
+KindOf number r =
+    MatchResult r (λ kind. (is_kind number ≡ true) × (kind_number kind ≡ number))
+    (λ unknown. (is_kind number ≡ false) × (unknown.0 ≡ number))
 
 -- what a kind's number, a head and entries say together
 abbrev pub says : ℕ → Head → List Entry → Contents
@@ -121,6 +129,15 @@ abbrev pub EntryFront : List ℕ → Option Entry → Type 0
 EntryFront bs None = length bs < entry_len
 EntryFront bs (Some e) = (entry_len ≤ length bs) × (e ≡ entry_in bs)
 
+-- entries one after another, the first at the place p, each with its place
+abbrev pub placed : ℕ → List Entry → List (ℕ × Entry)
+placed p [] = []
+placed p (e ∷ es) = (p, e) ∷ placed (p + entry_len) es
+
+-- the entries that a reader has still to give, each with its place in the whole
+abbrev pub entries_left : EntryReader → List (ℕ × Entry)
+entries_left r = placed (r.first + r.offset) (entries_in (drop r.offset r.bytes.now))
+
 -- a step of the reader: the entry at its offset, with its place in the whole
 pub record Gave (was : EntryReader) (place : ℕ) (e : Entry) (is : EntryReader) : Type 0 where
   pub whole : was.offset + entry_len ≤ length was.bytes.now
@@ -142,3 +159,7 @@ pub record Ended (was is : EntryReader) : Type 0 where
 abbrev pub Stepped : EntryReader → Option (ℕ × Entry) → EntryReader → Type 0
 Stepped was None is = Ended was is
 Stepped was (Some given) is = Gave was given.0 given.1 is
+
+-- what an iteration over a reader goes by: a step, which gives the first of the entries left or ends where none is left
+abbrev pub GivesEntry : EntryReader → Option (ℕ × Entry) → EntryReader → Type 0
+GivesEntry was given is = Stepped was given is × YieldsFirst entries_left was given is

@@ -1,6 +1,5 @@
 -- What a message says, and what writing does to a buffer.
 use Rattle.std.specs.Prelude.{◌≡◌, ℕ, ◌<◌, ◌≤◌, List, [], ◌++◌, length, drop, Ok, Err, Result}
-use Rattle.entries.specs.Lists.{list_of}
 use Rattle.letters.specs.declared.fault.Unwritten.{Unwritten}
 use Rattle.letters.specs.declared.message.Message.{Message}
 use Rattle.letters.specs.Contents.{Contents}
@@ -9,7 +8,7 @@ use Rattle.letters.specs.Code.{kind_number, says, unwritten_number}
 
 -- what a message says
 abbrev pub message_says : Message → Contents
-message_says m = says (kind_number m.kind) m.head (list_of m.entries)
+message_says m = says (kind_number m.kind) m.head m.entries
 
 -- what a message says that nobody has filled: an Ask by depot 0 to nobody
 abbrev pub blank_contents : Contents

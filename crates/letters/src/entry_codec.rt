@@ -1,8 +1,8 @@
 // One entry in bytes: mark, depot, wish, shelf.
-ghost use Rattle.std.specs.Prelude.{◌≡◌, [], Some};
+ghost use Rattle.std.specs.Prelude.{◌≡◌, [], Err};
 ghost use Rattle.letters.specs.Bytes.{entry_bytes};
-ghost use Rattle.letters.specs.Reading.{reading, owns, first_failed, one_entry_tests};
-ghost use Rattle.letters.specs.Code.{number_of, refusal_of, EntryFront};
+ghost use Rattle.letters.specs.Reading.{first_failed, one_entry_tests};
+ghost use Rattle.letters.specs.Code.{refusal_of, EntryFront};
 
 use crate::format::{DEPOT_AT, ENTRY_LEN, ENTRY_MARK, SHELF_AT, WISH_AT};
 use crate::{Unread, Unreadable};
@@ -32,19 +32,9 @@ pub fn entry_at(bytes: &[u8]) -> Option<Entry>
     })
 }
 
-// Whether an entry of a depot may stand where one of the owner has to; without an owner any may.
-fn is_owned(owner: Option<u8>, depot: u8) -> bool
-    ensures { result ≡ owns owner depot }
-{
-    match owner {
-        Some(owner) => depot == owner,
-        None => true,
-    }
-}
-
-/// A fault of reading.
-pub(crate) fn refuse(why: Unreadable, place: usize) -> Result<(), Unread>
-    ensures { refusal_of result ≡ Some (reading (number_of why) place) }
+/// A fault of reading, in place of whatever would have been read.
+pub(crate) fn refuse<T>(why: Unreadable, place: usize) -> Result<T, Unread>
+    ensures { result ≡ Err (record { why = why; place = place }) }
 {
     Err(Unread { why, place })
 }
@@ -63,7 +53,7 @@ pub fn check_entry(bytes: &[u8], first: u32, owner: Option<u8>) -> Result<(), Un
     if u16::from_be_bytes([*m0, *m1]) != ENTRY_MARK {
         return refuse(Unreadable::EntryMark, place);
     }
-    if !is_depot(*depot) || !is_owned(owner, *depot) {
+    if !is_depot(*depot) || owner.is_some_and(|owner| owner != *depot) {
         return refuse(Unreadable::Range, place + DEPOT_AT);
     }
     if u32::from_be_bytes([0, *w0, *w1, *w2]) > MAX_WISH {

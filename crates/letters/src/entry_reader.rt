@@ -1,9 +1,9 @@
 // Entries in bytes, read one after another.
-ghost use Rattle.std.specs.Prelude.{◌≡◌, ◌≤◌, length, take};
+ghost use Rattle.std.specs.Prelude.{◌≡◌, take};
+ghost use Rattle.std.specs.Iterator.{item_count};
 ghost use Rattle.entries.specs.Limits.{max_depots};
-ghost use Rattle.entries.specs.Lists.{list_of};
 ghost use Rattle.letters.specs.Reading.{entries_in};
-ghost use Rattle.letters.specs.Code.{Stepped};
+ghost use Rattle.letters.specs.Code.{placed, entries_left, GivesEntry};
 
 use crate::entry_codec::entry_at;
 use crate::format::ENTRY_LEN;
@@ -24,6 +24,7 @@ impl<'a> EntryReader<'a> {
         ensures bytes { result.bytes.now ≡ bytes.now }
         ensures first { result.first ≡ first }
         ensures start { result.offset ≡ 0 }
+        ensures left { entries_left result ≡ placed first (entries_in bytes.now) }
     {
         EntryReader {
             bytes,
@@ -31,45 +32,31 @@ impl<'a> EntryReader<'a> {
             offset: 0,
         }
     }
+}
+
+impl<'a> Iterator for EntryReader<'a> {
+    type Item = (usize, Entry);
+
+    ghost next_gives = { GivesEntry };
+
+    ghost remaining = { item_count entries_left };
 
     /// The next entry, with the place of its first byte; none where fewer bytes are left than an entry has.
-    pub fn next(&mut self) -> Option<(usize, Entry)>
-        ensures { Stepped self.old result self.new }
-    {
-        if self.offset > self.bytes.len() {
-            return None;
-        }
-        let entry = entry_at(&self.bytes[self.offset..])?;
+    fn next(&mut self) -> Option<(usize, Entry)> {
+        let entry = entry_at(self.bytes.get(self.offset..)?)?;
         let place = self.first as usize + self.offset;
         self.offset += ENTRY_LEN;
         Some((place, entry))
     }
 }
 
-// An entry to stand where none is counted.
-pub(crate) const UNCOUNTED: Entry = Entry {
-    depot: 0,
-    shelf: 0,
-    wish: 0,
-};
-
 /// The entries in the bytes, in a place of their own: as many as the place has room for, which no lawful list exceeds.
 pub fn entries_in(bytes: &[u8]) -> Entries
-    ensures list { list_of result ≡ take max_depots (entries_in bytes.now) }
-    ensures room { length result.items ≡ max_depots }
-    ensures placed { result.count ≤ max_depots }
+    ensures { result ≡ take max_depots (entries_in bytes.now) }
 {
-    let mut entries = Entries {
-        items: [UNCOUNTED; PLACES],
-        count: 0,
-    };
-    let mut reader = EntryReader::new(bytes, 0);
-    while entries.count < PLACES {
-        let Some((_, entry)) = reader.next() else {
-            return entries;
-        };
-        entries.items[entries.count] = entry;
-        entries.count += 1;
+    let mut entries = Entries::empty();
+    for (_, entry) in EntryReader::new(bytes, 0).take(PLACES) {
+        entries.push(entry);
     }
     entries
 }

@@ -1,7 +1,12 @@
 // Why a letter was not read, not taken or not written.
 ghost use Rattle.std.specs.Prelude.{◌≡◌};
 ghost use Rattle.letters.specs.declared.fault.Fault.TheVariants as faults;
+ghost use Rattle.letters.specs.Format.{kind_at};
+ghost use Rattle.letters.specs.declared.fault.Unreadable.TheVariants as unreadable;
 ghost use Rattle.letters.specs.Code.{number_of, unwritten_number};
+
+use crate::UnknownKind;
+use crate::format::KIND_AT;
 
 /// Why bytes are no letter, with the book's number of the refusal.
 #[derive(Clone, Copy, PartialEq, Eq, Debug)]
@@ -32,14 +37,26 @@ impl Unreadable {
 }
 
 /// A fault of the reading layer: why bytes are no letter, and the place of the field or entry in them.
-#[derive(Clone, Copy, Debug)]
+#[derive(Clone, Copy, PartialEq, Eq, Debug)]
 pub struct Unread {
     pub why: Unreadable,
     pub place: usize,
 }
 
+/// A letter of no kind, told at the place of the kind.
+impl From<UnknownKind> for Unread {
+    ghost from_gives = { λ _ unread. unread ≡ record { why = unreadable.Kind; place = kind_at } };
+
+    fn from(_unknown: UnknownKind) -> Unread {
+        Unread {
+            why: Unreadable::Kind,
+            place: KIND_AT,
+        }
+    }
+}
+
 /// A letter that was not taken, with the layer that refused it: reading, or the handover with a refusal of its own.
-#[derive(Clone, Copy, Debug)]
+#[derive(Clone, Copy, PartialEq, Eq, Debug)]
 pub enum Fault<R> {
     Reading(Unread),
     Handover(R),
@@ -54,7 +71,7 @@ impl<R> From<Unread> for Fault<R> {
 }
 
 /// Why a letter was not written. It belongs to neither layer of a letter's fault.
-#[derive(Clone, Copy, Debug)]
+#[derive(Clone, Copy, PartialEq, Eq, Debug)]
 pub enum Unwritten {
     /// The buffer is shorter than the letter.
     NoRoom = 34,

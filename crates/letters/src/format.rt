@@ -41,6 +41,3 @@ pub(crate) const SHELF_AT: usize = WISH_AT + WISH_LEN;
 
 /// The length of an entry: mark, depot, wish and shelf.
 pub const ENTRY_LEN: usize = SHELF_AT + SHELF_LEN;
-
-/// The most that the shelves of a List may hold together, as a sum of any shelves is compared with it.
-pub(crate) const MAX_POOL: u64 = entries::MAX_POOL as u64;

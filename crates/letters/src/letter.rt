@@ -1,7 +1,7 @@
 // Letters as they are read.
 ghost use Rattle.std.specs.Prelude.{◌≡◌};
 ghost use Rattle.letters.specs.Format.{head_len};
-ghost use Rattle.letters.specs.Code.{kind_number, letter_kind, letter_head, entry_part};
+ghost use Rattle.letters.specs.Code.{kind_number, KindOf, letter_kind, letter_head, entry_part};
 
 use crate::EntryReader;
 use crate::format::HEAD_LEN;
@@ -21,6 +21,32 @@ pub enum Kind {
     Done = 9,
 }
 
+/// A number that is none of the nine kinds'.
+#[derive(Clone, Copy, PartialEq, Eq, Debug)]
+pub struct UnknownKind(pub u8);
+
+/// The kind with a number.
+impl TryFrom<u8> for Kind {
+    type Error = UnknownKind;
+
+    ghost try_from_gives = { KindOf };
+
+    fn try_from(number: u8) -> Result<Kind, UnknownKind> {
+        match number {
+            1 => Ok(Kind::Ask),
+            2 => Ok(Kind::Offer),
+            3 => Ok(Kind::List),
+            4 => Ok(Kind::Yes),
+            5 => Ok(Kind::No),
+            6 => Ok(Kind::Settle),
+            7 => Ok(Kind::Drop),
+            8 => Ok(Kind::Query),
+            9 => Ok(Kind::Done),
+            _ => Err(UnknownKind(number)),
+        }
+    }
+}
+
 impl Kind {
     /// The kind's number in bytes.
     pub fn number(self) -> u8
@@ -31,7 +57,7 @@ impl Kind {
 }
 
 /// What every letter says: who sends it to whom, and which handover it is about, under which policy.
-#[derive(Clone, Copy)]
+#[derive(Clone, Copy, PartialEq, Eq, Debug)]
 pub struct Head {
     pub sender: u8,
     pub to: Depots,
@@ -41,7 +67,7 @@ pub struct Head {
 }
 
 /// A letter that was read. The entries of an Offer and of a List remain a part of the caller's bytes.
-#[derive(Clone, Copy)]
+#[derive(Clone, Copy, PartialEq, Eq, Debug)]
 pub enum Letter<'a> {
     Ask(Head),
     Offer(Head, &'a [u8]),

@@ -13,13 +13,14 @@ mod letter;
 mod message;
 mod reading;
 mod theorems;
+mod unchecked;
 mod writing;
 
 pub use entry_codec::{check_entry, entry_at, entry_bytes};
 pub use entry_reader::{EntryReader, entries_in};
 pub use fault::{Fault, Unread, Unreadable, Unwritten};
 pub use format::{ENTRY_LEN, HEAD_LEN};
-pub use letter::{Head, Kind, Letter};
+pub use letter::{Head, Kind, Letter, UnknownKind};
 pub use message::Message;
 pub use reading::read;
 pub use theorems::{one_form, worked_letters};

@@ -1,6 +1,4 @@
 // The message that writing takes.
-ghost use Rattle.std.specs.Prelude.{◌≤◌, length};
-ghost use Rattle.entries.specs.Lists.{list_of};
 ghost use Rattle.letters.specs.Contents.{Lawful};
 ghost use Rattle.letters.specs.Code.{kind_number, says};
 
@@ -14,6 +12,5 @@ pub struct Message {
     pub kind: Kind,
     pub head: Head,
     pub entries: Entries,
-    ghost placed: { entries.count ≤ length entries.items },
-    ghost lawful: { ∥ Lawful (says (kind_number kind) head (list_of entries)) ∥₁ },
+    ghost lawful: { ∥ Lawful (says (kind_number kind) head entries) ∥₁ },
 }

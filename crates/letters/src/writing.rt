@@ -1,7 +1,6 @@
 // Writing a message.
-ghost use Rattle.std.specs.Prelude.{◌≡◌, ◌+◌, ◌*◌, ◌^◌, ◌<◌, ◌≤◌, [], ◌++◌, length, drop};
-ghost use Rattle.entries.specs.Lists.{list_of};
-ghost use Rattle.letters.specs.Format.{head_len, entry_len};
+ghost use Rattle.std.specs.Prelude.{◌≡◌, ◌*◌, ◌≤◌, [], ◌++◌, length, drop};
+ghost use Rattle.letters.specs.Format.{entry_len};
 ghost use Rattle.letters.specs.Bytes.{entries_bytes, encode};
 ghost use Rattle.letters.specs.OneForm.{ReadBack};
 ghost use Rattle.letters.specs.Code.{kind_number, says};
@@ -10,7 +9,7 @@ ghost use Rattle.letters.specs.Writing.{message_says, Wrote};
 use crate::entry_codec::entry_bytes;
 use crate::format::{ENTRY_LEN, HEAD_LEN, LETTER_MARK};
 use crate::{Head, Kind, Message, Unwritten};
-use entries::Entries;
+use entries::Entry;
 
 // The bytes of a head.
 fn head_bytes(kind: Kind, head: Head) -> [u8; HEAD_LEN]
@@ -35,28 +34,16 @@ fn head_bytes(kind: Kind, head: Head) -> [u8; HEAD_LEN]
     ]
 }
 
-// Fills the front of a buffer with the entries' bytes, and leaves the rest.
-fn write_entries(entries: &Entries, buffer: &mut [u8])
-    requires placed { entries.now.count ≤ length entries.now.items }
-    requires room { entry_len * entries.now.count ≤ length buffer.old }
-    ensures { buffer.new
-        ≡ entries_bytes (list_of entries.now)
-        ++ drop (entry_len * entries.now.count) buffer.old }
+// Fills the front of a buffer with the entries' bytes, and leaves the rest. An index tells the place of each, since a
+// proof knows nothing of what is written through `chunks_mut`.
+fn write_entries(entries: &[Entry], buffer: &mut [u8])
+    requires { entry_len * length entries.now ≤ length buffer.old }
+    ensures { buffer.new ≡ entries_bytes entries.now ++ drop (entry_len * length entries.now) buffer.old }
 {
-    for i in 0..entries.count {
-        let at = ENTRY_LEN * i;
-        buffer[at..at + ENTRY_LEN].copy_from_slice(&entry_bytes(entries.items[i]));
+    for (index, entry) in entries.iter().enumerate() {
+        let at = ENTRY_LEN * index;
+        buffer[at..at + ENTRY_LEN].copy_from_slice(&entry_bytes(*entry));
     }
-}
-
-// The length of a letter with the entries.
-fn letter_len(entries: &Entries) -> usize
-    requires placed { entries.now.count ≤ length entries.now.items }
-    requires few { entries.now.count < 2 ^ 16 }
-    ensures count { result ≡ head_len + entry_len * entries.now.count }
-    ensures bytes { result ≡ head_len + length (entries_bytes (list_of entries.now)) }
-{
-    HEAD_LEN + ENTRY_LEN * entries.count
 }
 
 /// Fills the front of the buffer with the message's bytes, leaves the rest, and answers how many bytes it filled. What
@@ -67,11 +54,12 @@ pub fn write(message: &Message, buffer: &mut [u8]) -> Result<usize, Unwritten>
     ensures wrote { Wrote (message_says message.now) buffer.old result buffer.new }
     ensures form { ReadBack (message_says message.now) }
 {
-    let len = letter_len(&message.entries);
+    let entries = message.entries.as_slice();
+    let len = HEAD_LEN + ENTRY_LEN * entries.len();
     if buffer.len() < len {
         return Err(Unwritten::NoRoom);
     }
     buffer[0..HEAD_LEN].copy_from_slice(&head_bytes(message.kind, message.head));
-    write_entries(&message.entries, &mut buffer[HEAD_LEN..]);
+    write_entries(entries, &mut buffer[HEAD_LEN..]);
     Ok(len)
 }

@@ -1,11 +1,10 @@
-use Rattle.std.proofs.Common.{refl, arith}
+use Rattle.std.proofs.Common.{arith}
 use Rattle.entries.specs.Limits.{max_depots}
 use Rattle.letters.proofs.message.Message.blank.Goals as goal
 
 pub invariant_of-result : goal.invariant_of-result
 unfolding max_depots
 invariant_of-result c = record {
-  placed = omega arith;
   lawful = ∣ record {
     kind_low = omega arith;
     kind_high = omega arith;
@@ -16,6 +15,6 @@ invariant_of-result c = record {
     code_high = omega arith;
     number_low = omega arith;
     number_fits = omega arith;
-    carries = refl;
+    carries = c.empty.ensures;
   } ∣₁;
 }
