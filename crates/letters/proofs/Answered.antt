@@ -6,31 +6,43 @@ use Rattle.std.proofs.lemmas.Bool.{le-leb, eq-eqb}
 use Rattle.std.proofs.lemmas.List.{take_rest}
 use Rattle.letters.specs.declared.fault.Unread.{Unread}
 use Rattle.letters.specs.declared.letter.Letter.{Letter}
+use Rattle.letters.specs.declared.unchecked.Unchecked.{Unchecked}
 use Rattle.letters.specs.Format as format
 use Rattle.letters.specs.Format.{letter_mark, mark_len, to_len, number_len, head_len, entry_len}
 use Rattle.letters.specs.Bytes.{Bytes, at, number_in}
 use Rattle.letters.specs.OneForm.{InForm}
-use Rattle.letters.specs.Code.{letter_says, answer_of}
-use Rattle.letters.specs.Reading.{Refusal, first_failed, entries_in, owner_of}
+use Rattle.letters.specs.Code.{kind_number, letter_says, answer_of}
+use Rattle.letters.specs.Reading.{Refusal, Test, first_failed, entries_in, owner_of}
 use Rattle.letters.specs.Reading.{head_tests, entries_tests, rises_tests, sum_tests, value_tests, body_tests}
 use Rattle.letters.specs.Reading.{Answer, answer, reads}
 use Rattle.letters.proofs.Tests.{failed_join}
 use Rattle.letters.proofs.Forth.{no_other}
 
 -- the values: what the checks of the head, of each entry, of the order and of the sum answer, one after another
-pub values_failed : (kind sender leader code number : ℕ) (bs : List ℕ) (head each order sum : Option Refusal) →
-    head ≡ first_failed (head_tests sender leader code number) →
-    each ≡ first_failed (entries_tests (length bs / entry_len) (owner_of kind sender) head_len bs) →
-    order ≡ first_failed (rises_tests 0 head_len (entries_in bs)) → sum ≡ first_failed (sum_tests kind (entries_in bs)) →
-    option_or head (option_or each (option_or order sum)) ≡ first_failed (value_tests kind sender leader code number bs)
-values_failed kind sender leader code number bs head each order sum h e o s =
-    let es = entries_tests (length bs / entry_len) (owner_of kind sender) head_len bs in
-    let os = rises_tests 0 head_len (entries_in bs) in
-    let ss = sum_tests kind (entries_in bs) in
-    rw (h, e, o, s)
-    (sym (failed_join (head_tests sender leader code number) (es ++ (os ++ ss))
-    ∙ ap (option_or (first_failed (head_tests sender leader code number))) (failed_join es (os ++ ss)
-    ∙ ap (option_or (first_failed es)) (failed_join os ss))))
+module _ (s : Unchecked) where
+  abbrev head : List Test
+  head = head_tests s.head.sender s.head.leader s.head.code s.head.number
+
+  abbrev each : List Test
+  each =
+      entries_tests (length s.entries.now / entry_len) (owner_of (kind_number s.kind) s.head.sender) head_len s.entries.now
+
+  abbrev order : List Test
+  order = rises_tests 0 head_len (entries_in s.entries.now)
+
+  abbrev sum : List Test
+  sum = sum_tests (kind_number s.kind) (entries_in s.entries.now)
+
+  pub values_failed : (h e o v : Option Refusal) → h ≡ first_failed head → e ≡ first_failed each →
+      o ≡ first_failed order → v ≡ first_failed sum →
+      option_or h (option_or e (option_or o v))
+      ≡ first_failed
+      (value_tests (kind_number s.kind) s.head.sender s.head.leader s.head.code s.head.number s.entries.now)
+  values_failed h e o v is_head is_each is_order is_sum =
+      rw (is_head, is_each, is_order, is_sum)
+      (sym (failed_join head (each ++ (order ++ sum))
+      ∙ ap (option_or (first_failed head)) (failed_join each (order ++ sum)
+      ∙ ap (option_or (first_failed each)) (failed_join order sum))))
 
 -- the head's mark is right: the rest decides, as the code takes it apart
 pub marked_reads : (bs : List ℕ) (to number : ℕ) (a : Answer) → head_len ≤ length bs →

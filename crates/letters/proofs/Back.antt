@@ -1,6 +1,7 @@
 -- A lawful letter is read back from its bytes: each test passes, since each number fits its bytes.
 use Rattle.std.proofs.Common.{◌≡◌, ℕ, ◌+◌, ◌*◌, ◌/◌, ◌%◌, true, ◌&&◌, ltb, leb, List, [], ◌∷◌, length, Option, refl, arith}
 use Rattle.std.specs.List.{AllByRecursion}
+use Rattle.std.proofs.ByRecursion.{All-append}
 use Rattle.std.proofs.lemmas.Bool.{le-leb, lt-ltb, eq-eqb, and_from}
 use Rattle.entries.specs.declared.lists.Entry.{Entry}
 use Rattle.entries.specs.Lists.{RisesFrom}
@@ -13,7 +14,7 @@ use Rattle.letters.specs.Reading.{head_tests, entry_tests, entries_tests, rises_
 use Rattle.letters.specs.Reading.{tests}
 use Rattle.letters.specs.OneForm.{ReadBack}
 use Rattle.letters.proofs.Numbers.{number_back}
-use Rattle.letters.proofs.Tests.{Passed, passed_none, passed_join}
+use Rattle.letters.proofs.Tests.{Passes, Passed, passed_none}
 use Rattle.letters.proofs.Carried.{Fits, carries_fits}
 
 -- one entry
@@ -50,7 +51,7 @@ pub entries_pass : (owner : Option ℕ) (p : ℕ) (es : List Entry) → AllByRec
     AllByRecursion (λ e. owns owner e.depot ≡ true) es → Passed (entries_tests (length es) owner p (entries_bytes es))
 entries_pass owner p [] h o = tt
 entries_pass owner p (e ∷ es) h o =
-    passed_join (entry_tests owner p (entry_bytes e (entries_bytes es))) _
+    All-append Passes (entry_tests owner p (entry_bytes e (entries_bytes es))) _
     (entry_passes owner p e (entries_bytes es) h.0 o.0)
     (entries_pass owner (p + entry_len) es h.1 o.1)
 
@@ -95,15 +96,15 @@ module _ (m : Contents) (h : Lawful m) where
       let es = m.entries in
       let owner = owner_of m.kind m.sender in
       let sum = fits.sum in
-      passed_join (head_tests m.sender m.leader m.code m.number) _ head_passes
+      All-append Passes (head_tests m.sender m.leader m.code m.number) _ head_passes
       (rw (entries_read_lem, count)
-      (passed_join (entries_tests (length es) owner head_len body) _
+      (All-append Passes (entries_tests (length es) owner head_len body) _
       (entries_pass owner head_len es fits.each fits.owned)
-      (passed_join (rises_tests 0 head_len es) _ (rises_pass 0 head_len es fits.rises) (sum, tt))))
+      (All-append Passes (rises_tests 0 head_len es) _ (rises_pass 0 head_len es fits.rises) (sum, tt))))
 
   body_passes : Passed (body_tests m.kind m.sender m.leader m.code m.number body)
   body_passes =
-      passed_join (kind_tests m.kind (length body))
+      All-append Passes (kind_tests m.kind (length body))
       (value_tests m.kind m.sender m.leader m.code m.number body) kind_passes values_pass
 
   pub read_back : ReadBack m

@@ -55,8 +55,8 @@ answer_parts (letter m) = inr m
 
 answer_inj : (x y : Answer) → answer_parts x ≡ answer_parts y → x ≡ y
 answer_inj (refused r) (refused s) e = cc
-answer_inj (refused r) (letter m) e = let z : ◌≡◌ {A = ℕ} 0 1 = cc in absurd (omega arith)
-answer_inj (letter m) (refused r) e = let z : ◌≡◌ {A = ℕ} 0 1 = cc in absurd (omega arith)
+answer_inj (refused r) (letter m) e = cc
+answer_inj (letter m) (refused r) e = cc
 answer_inj (letter m) (letter n) e = cc
 
 answer_coded : Coded Answer

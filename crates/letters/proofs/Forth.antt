@@ -1,9 +1,9 @@
 -- No other bytes are read as a letter: bytes that pass each test are the form of the letter in them, which is lawful.
-use Rattle.std.proofs.Common.{◌≡◌, ℕ, zero, suc, ◌+◌, ◌*◌, ◌/◌, ◌%◌, ◌<◌, ◌≤◌, true, eqb, ltb, leb, List, [], ◌∷◌, length, drop, Some, None, Option, sym, refl, ap, ◌∙◌, subst, arith}
+use Rattle.std.proofs.Common.{◌≡◌, ℕ, zero, suc, ◌+◌, ◌*◌, ◌/◌, ◌%◌, ◌≤◌, true, eqb, ltb, leb, List, [], ◌∷◌, length, drop, Some, None, Option, sym, refl, ap, ◌∙◌, subst, arith}
 use Rattle.std.specs.List.{AllByRecursion}
 use Rattle.std.proofs.lemmas.Bool.{leb-true, ltb-true, eqb-true, and_parts}
 use Rattle.std.proofs.lemmas.List.{drop_more, nil_from_length, length-drop}
-use Rattle.std.proofs.ByRecursion.{All-drop, All-from_get_or}
+use Rattle.std.proofs.ByRecursion.{All-drop}
 use Rattle.entries.specs.declared.lists.Entry.{Entry}
 use Rattle.entries.specs.Lists.{RisesFrom}
 use Rattle.letters.specs.Format as format
@@ -133,15 +133,12 @@ passed_form bs hb h =
 
 answer_letter : (r : Option Refusal) (m n : Contents) → answer r m ≡ letter n → (r ≡ None) × (m ≡ n)
 answer_letter None m n e = (refl, cc)
-answer_letter (Some r) m n e = let z : ◌≡◌ {A = ℕ} 0 1 = cc in absurd (omega arith)
+answer_letter (Some r) m n e = absurd (cc)
 
 pub no_other : (bs : List ℕ) (m : Contents) → Bytes bs → reads bs ≡ letter m → InForm bs m
 no_other bs m hb e =
     let r = answer_letter (first_failed (tests bs)) (contents_in bs) m e in
     subst (InForm bs) r.1 (passed_form bs hb (none_passed (tests bs) r.0))
-
-pub bytes_from : (bs : List ℕ) → ((i : ℕ) → at bs i < 256) → Bytes bs
-bytes_from bs h = All-from_get_or _ bs 0 (λ i _. h i)
 
 pub one_form : OneForm
 one_form = record { read_back = read_back; no_other = no_other }

@@ -1,6 +1,6 @@
 -- One entry more: what the reader of entries and the loops of reading go by. The bytes at an entry's front have that
 -- entry and those of the rest, and their tests and their order are those of that entry and of the rest.
-use Rattle.std.proofs.Common.{◌≡◌, ℕ, zero, suc, ◌+◌, ◌/◌, ◌%◌, ◌<◌, ◌≤◌, List, [], ◌∷◌, ◌++◌, length, map, take, drop, Some, Option, Bor, sym, refl, ap, ◌∙◌, arith}
+use Rattle.std.proofs.Common.{◌≡◌, ℕ, zero, suc, ◌+◌, ◌/◌, ◌%◌, ◌<◌, ◌≤◌, List, ◌∷◌, ◌++◌, length, take, drop, Some, Option, Bor, sym, refl, ap, ◌∙◌, arith}
 use Rattle.std.specs.Option.{option_or}
 use Rattle.std.specs.Slice.Iter.{chunks_rest, chunks_size, chunks_steps}
 use Rattle.std.proofs.lemmas.List.{drop-drop, drop_at, take_at, length-drop, length-append, get_or-take}
@@ -12,7 +12,7 @@ use Rattle.letters.specs.Format.{mark_len, wish_len, shelf_len, entry_len}
 use Rattle.letters.specs.Bytes.{number_in}
 use Rattle.letters.specs.Reading.{Refusal, reading, Test, first_failed, entry_in, entries_in, entry_tests}
 use Rattle.letters.specs.Reading.{one_entry_tests, entries_tests, rises_tests}
-use Rattle.letters.specs.Code.{placed, Gave, Ended}
+use Rattle.letters.specs.Code.{placed, Gave}
 use Rattle.letters.proofs.Tests.{failed_join}
 
 count_more : (bs : List ℕ) → entry_len ≤ length bs → length bs / entry_len ≡ suc (length (drop entry_len bs) / entry_len)
@@ -21,7 +21,7 @@ count_more bs h = omega (arith, length-drop entry_len bs)
 entries_more : (bs : List ℕ) → entry_len ≤ length bs → entries_in bs ≡ entry_in bs ∷ entries_in (drop entry_len bs)
 entries_more bs h = rw (count_more bs h) refl
 
--- what a reader has left: a step gives its first entry, and at the end there is none
+-- what a reader has left: a step gives its first entry
 abbrev pub rest : EntryReader → List Entry
 rest r = entries_in (drop r.offset r.bytes.now)
 
@@ -35,14 +35,6 @@ pub rest_gave : (was is : EntryReader) (p : ℕ) (e : Entry) → Gave was p e is
 rest_gave was is p e g =
     rest_more was.offset was.bytes.now g.whole ∙ rw (← g.entry, ← g.onward, ← g.same_bytes) refl
 
-pub rest_none : (i : ℕ) (bs : List ℕ) → length bs < i + entry_len → entries_in (drop i bs) ≡ []
-rest_none i bs h =
-    let none : length (drop i bs) / entry_len ≡ 0 = omega (arith, length-drop i bs) in
-    rw none refl
-
-pub rest_ended : (was is : EntryReader) → Ended was is → rest was ≡ []
-rest_ended was is g = rest_none was.offset was.bytes.now g.short
-
 -- the same with the places
 pub left_placed : (p i : ℕ) (bs : List ℕ) (e : Entry) → i + entry_len ≤ length bs → e ≡ entry_in (drop i bs) →
     placed (p + i) (entries_in (drop i bs))
@@ -50,10 +42,6 @@ pub left_placed : (p i : ℕ) (bs : List ℕ) (e : Entry) → i + entry_len ≤ 
 left_placed p i bs e h is =
     let next : p + i + entry_len ≡ p + (i + entry_len) = omega arith in
     rw (rest_more i bs h, ← next, ← is) refl
-
-pub placed_entries : (p : ℕ) (es : List Entry) → map (λ (x : ℕ × Entry). x.1) (placed p es) ≡ es
-placed_entries p [] = refl
-placed_entries p (e ∷ es) = ap (λ xs. e ∷ xs) (placed_entries (p + entry_len) es)
 
 -- an entry's tests read its own bytes alone
 number_front : (width n i : ℕ) (bs : List ℕ) → i + width ≤ n → number_in width (take n bs) i ≡ number_in width bs i

@@ -18,6 +18,7 @@ const BLANK_HEAD: Head = Head {
 
 impl Message {
     /// A message to lend: an Ask by depot 0 to nobody, about its first handover under policy 1.
+    #[tactic(auto, unfolding(entries::specs::Limits::max_depots))]
     pub fn blank() -> Message
         ensures { message_says result ≡ blank_contents }
     {

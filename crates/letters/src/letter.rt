@@ -1,7 +1,8 @@
 // Letters as they are read.
 ghost use Rattle.std.specs.Prelude.{◌≡◌};
 ghost use Rattle.letters.specs.Format.{head_len};
-ghost use Rattle.letters.specs.Code.{kind_number, KindOf, letter_kind, letter_head, entry_part};
+ghost use Rattle.letters.specs.Reading.{entries_in};
+ghost use Rattle.letters.specs.Code.{kind_number, KindOf, letter_kind, letter_head, entry_part, placed, entries_left};
 
 use crate::EntryReader;
 use crate::format::HEAD_LEN;
@@ -115,6 +116,7 @@ impl<'a> Letter<'a> {
         ensures bytes { result.bytes.now ≡ entry_part self.entry }
         ensures first { result.first ≡ head_len }
         ensures start { result.offset ≡ 0 }
+        ensures left { entries_left result ≡ placed head_len (entries_in (entry_part self.entry)) }
     {
         let bytes = match self {
             Letter::Offer(_, bytes) | Letter::List(_, bytes) => bytes,

@@ -1,11 +1,11 @@
 use Rattle.std.proofs.Common.{◌≡◌, ◌-◌, ◌≤◌, length, take, drop, ◌∙◌, arith, ltb-false}
+use Rattle.std.proofs.ByRecursion.{All-from_get_or}
 use Rattle.std.proofs.lemmas.List.{take_rest}
 use Rattle.std.proofs.lemmas.Result.{IfOk-weaker}
 use Rattle.letters.specs.Format as format
 use Rattle.letters.specs.Format.{letter_mark, mark_len, to_len, number_len, head_len}
 use Rattle.letters.specs.Bytes.{number_in}
 use Rattle.letters.specs.Code.{entry_part, answer_of}
-use Rattle.letters.proofs.Forth.{bytes_from}
 use Rattle.letters.proofs.Answered.{marked_reads, read_in_form}
 use Rattle.letters.proofs.reading.read.Goals as goal
 
@@ -27,5 +27,5 @@ returns c =
           IfOk-weaker r (λ l. entry_part l ≡ take (length bs - head_len) (drop head_len bs))
           (λ l. entry_part l ≡ drop head_len bs)
           (λ l e. e ∙ take_rest bs head_len) c.read_marked.ensures.part;
-      form = read_in_form bs r (bytes_from bs (λ i. omega (arith, c.type_inv.bytes i))) says;
+      form = read_in_form bs r (All-from_get_or _ bs 0 (λ i _. omega (arith, c.type_inv.bytes i))) says;
     }
