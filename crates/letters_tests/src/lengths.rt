@@ -2,16 +2,16 @@
 use crate::samples::{long_letter, refusal};
 
 // What reading answers to the front of a long letter, given what its kind can have.
-fn expected(kind: u8, len: usize) -> (u8, usize) {
+fn expected(kind: u8, len: usize) -> Result<(), (u8, usize)> {
     if len < 12 {
-        return (22, 0);
+        return Err((22, 0));
     }
     let fits = match kind {
         2 => len == 22,
         3 => 32 <= len && len <= 172 && len % 10 == 2,
         _ => len == 12,
     };
-    if fits { (0, 0) } else { (25, 0) }
+    if fits { Ok(()) } else { Err((25, 0)) }
 }
 
 #[test]

@@ -14,28 +14,17 @@ pub(crate) const LIST: &[u8; 32] = b"\x48\x4F\x03\x02\x00\x01\x02\x01\x00\x00\x0
     \x45\x4E\x00\x00\x00\x00\x00\x00\x00\x04\
     \x45\x4E\x02\x00\x00\x06\x00\x00\x00\x01";
 
-/// The number and the place of what reading refuses; two zeros where it refuses nothing.
-pub(crate) fn refusal(bytes: &[u8]) -> (u8, usize) {
+/// What reading answers to bytes: nothing, or the number and the place of the refusal.
+pub(crate) fn refusal(bytes: &[u8]) -> Result<(), (u8, usize)> {
     match read(bytes) {
-        Ok(_) => (0, 0),
-        Err(unread) => (unread.why.number(), unread.place),
+        Ok(_) => Ok(()),
+        Err(unread) => Err((unread.why.number(), unread.place)),
     }
 }
 
-/// A place of a letter, the byte put there, and the refusal that follows: its number and the place that it tells.
+/// A place of a letter, the byte put there, and what reading answers then.
 #[derive(Clone, Copy)]
-pub(crate) struct Damage(pub usize, pub u8, pub (u8, usize));
-
-/// Checks that the letter is read, and that each damage alone is answered by its refusal.
-pub(crate) fn check_damages<const N: usize>(rt: &impl Abort, letter: &[u8; N], damages: &[Damage]) {
-    assert_eq!(rt; refusal(letter), (0, 0));
-    for damage in damages {
-        let mut bytes = *letter;
-        assert!(rt; damage.0 < bytes.len());
-        bytes[damage.0] = damage.1;
-        assert_eq!(rt; refusal(&bytes), damage.2);
-    }
-}
+pub(crate) struct Damage(pub usize, pub u8, pub Result<(), (u8, usize)>);
 
 /// Checks that damages put in one after another, each on top of those before, are each answered by its refusal.
 pub(crate) fn check_together<const N: usize>(
@@ -44,10 +33,18 @@ pub(crate) fn check_together<const N: usize>(
     damages: &[Damage],
 ) {
     let mut bytes = *letter;
+    for Damage(place, byte, answer) in damages {
+        assert!(rt; *place < bytes.len());
+        bytes[*place] = *byte;
+        assert_eq!(rt; refusal(&bytes), *answer);
+    }
+}
+
+/// Checks that the letter is read, and that each damage alone is answered by its refusal.
+pub(crate) fn check_damages<const N: usize>(rt: &impl Abort, letter: &[u8; N], damages: &[Damage]) {
+    assert_eq!(rt; refusal(letter), Ok(()));
     for damage in damages {
-        assert!(rt; damage.0 < bytes.len());
-        bytes[damage.0] = damage.1;
-        assert_eq!(rt; refusal(&bytes), damage.2);
+        check_together(rt, letter, &[*damage]);
     }
 }
 
@@ -57,11 +54,8 @@ pub(crate) fn long_letter(kind: u8) -> [u8; 200] {
     bytes[0..HEAD_LEN].copy_from_slice(ASK);
     bytes[2] = kind;
     bytes[3] = 0;
-    for i in 0..18 {
-        let at = HEAD_LEN + ENTRY_LEN * i;
-        bytes[at] = 0x45;
-        bytes[at + 1] = 0x4E;
-        bytes[at + 2] = i as u8;
+    for (depot, entry) in (0..18).zip(bytes[HEAD_LEN..].chunks_exact_mut(ENTRY_LEN)) {
+        entry[0..3].copy_from_slice(&[0x45, 0x4E, depot]);
     }
     bytes
 }

@@ -3,19 +3,15 @@ use Rattle.entries.specs.Limits.{max_depots}
 use Rattle.letters_tests.proofs.Lawfully.{lawful}
 use Rattle.letters_tests.proofs.worked.list.Goals as goal
 
-pub set_list-requires : goal.set_list-requires
+pub set-requires : goal.set-requires
 unfolding max_depots
-set_list-requires g c =
+set-requires g c =
+    lawful 3 2 1 _ (omega arith) (omega arith) (omega arith) (omega arith)
     record {
-      placed = omega arith;
-      lawful =
-          lawful 3 2 1 _ (omega arith) (omega arith) (omega arith) (omega arith)
-          record {
-            two = omega arith;
-            few = omega arith;
-            rises = (omega arith, (omega arith, tt));
-            depots = (omega arith, (omega arith, tt));
-            wishes = (omega arith, (omega arith, tt));
-            sum_within = omega arith;
-          };
+      two = omega arith;
+      few = omega arith;
+      rises = (omega arith, (omega arith, tt));
+      depots = (omega arith, (omega arith, tt));
+      wishes = (omega arith, (omega arith, tt));
+      sum_within = omega arith;
     }

@@ -2,8 +2,8 @@ use Rattle.std.proofs.Common.{refl, arith}
 use Rattle.letters_tests.proofs.Lawfully.{lawful, small_entry}
 use Rattle.letters_tests.proofs.worked.offer.Goals as goal
 
-pub set_offer-requires : goal.set_offer-requires
-set_offer-requires g c =
+pub set-requires : goal.set-requires
+set-requires g c =
     lawful 2 0 4 _ (omega arith) (omega arith) (omega arith) (omega arith)
     record {
       one = refl;
