@@ -92,11 +92,16 @@ module _ (owner : Option ℕ) (p : ℕ) (s t : _) (chunk : Bor (List ℕ)) (cut 
       let one : v ≡ first_failed (entry_tests owner p chunk.now) = rw chunk_long at e in
       rw one (sym (ap first_failed tests_more ∙ failed_join (entry_tests owner p chunk.now) rest_tests))
 
--- a turn of the check of the order: an entry below the least that may come is refused at its place
-pub order_refused : (d p : ℕ) (e : Entry) (es all : List Entry) → e.depot < d → all ≡ e ∷ es →
-    Some (reading 28 p) ≡ first_failed (rises_tests d p all)
-order_refused d p e es all h more = rw (more, lt-leb _ _ h) refl
+-- a turn of the check of the order, at a step of the reader: an entry below the least that may come is refused at its
+-- place, and another raises the least
+module _ (was is : EntryReader) (p : ℕ) (e : Entry) (g : Gave was p e is) (d : ℕ) where
+  pub order_refused : e.depot < d →
+      Some (reading 28 p) ≡ first_failed (rises_tests d (was.first + was.offset) (rest was))
+  order_refused h = rw (rest_gave was is p e g, g.placed, lt-leb _ _ h) refl
 
-pub order_past : (d f p n : ℕ) (e : Entry) (es all : List Entry) → d ≤ e.depot → all ≡ e ∷ es → f ≡ e.depot →
-    n ≡ p + entry_len → first_failed (rises_tests (f + 1) n es) ≡ first_failed (rises_tests d p all)
-order_past d f p n e es all h more depot next = rw (more, depot, next, le-leb _ _ h) refl
+  pub order_past : (f : ℕ) → f ≡ e.depot → d ≤ e.depot →
+      first_failed (rises_tests (f + 1) (is.first + is.offset) (rest is))
+      ≡ first_failed (rises_tests d (was.first + was.offset) (rest was))
+  order_past f depot h =
+      let next : is.first + is.offset ≡ was.first + was.offset + entry_len = omega (arith, g.onward, g.same_first) in
+      rw (rest_gave was is p e g, depot, next, le-leb _ _ h) refl

@@ -36,6 +36,7 @@ fn head_bytes(kind: Kind, head: Head) -> [u8; HEAD_LEN]
 
 // Fills the front of a buffer with the entries' bytes, and leaves the rest. An index tells the place of each, since a
 // proof knows nothing of what is written through `chunks_mut`.
+#[tactic(auto, using(crate::proofs::Written::entry_written))]
 fn write_entries(entries: &[Entry], buffer: &mut [u8])
     requires { entry_len * length entries.now ≤ length buffer.old }
     ensures { buffer.new ≡ entries_bytes entries.now ++ drop (entry_len * length entries.now) buffer.old }
