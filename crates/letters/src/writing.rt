@@ -34,13 +34,13 @@ fn head_bytes(kind: Kind, head: Head) -> [u8; HEAD_LEN]
     ]
 }
 
-// Fills the front of a buffer with the entries' bytes, and leaves the rest. An index tells the place of each, since a
-// proof knows nothing of what is written through `chunks_mut`.
+// Fills the front of a buffer with the entries' bytes, and leaves the rest.
 #[tactic(auto, using(crate::proofs::Written::entry_written))]
 fn write_entries(entries: &[Entry], buffer: &mut [u8])
     requires { entry_len * length entries.now ≤ length buffer.old }
     ensures { buffer.new ≡ entries_bytes entries.now ++ drop (entry_len * length entries.now) buffer.old }
 {
+    // By places: once the loan of `chunks_exact_mut` is over, a proof knows no byte of the buffer (tried).
     for (index, entry) in entries.iter().enumerate() {
         let at = ENTRY_LEN * index;
         buffer[at..at + ENTRY_LEN].copy_from_slice(&entry_bytes(*entry));
