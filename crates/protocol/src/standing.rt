@@ -1,6 +1,7 @@
 // Where a depot stands in a handover.
 ghost use Rattle.std.specs.Prelude.{◌≡◌};
 ghost use Rattle.protocol.specs.Code.{standing_number};
+ghost use Rattle.protocol.specs.State.{engages};
 
 /// Where a depot stands in the handover of a leader's row, with the number of the standing. It is engaged at `Offered`
 /// and `Accepted`, and bound at `Accepted`.
@@ -22,9 +23,18 @@ pub enum Standing {
 
 impl Standing {
     /// The number of the standing.
+    // no `From<Standing> for u8`: `standing.number()` names what `u8::from(standing)` would not
     pub fn number(self) -> u8
         ensures { result ≡ standing_number self }
     {
         self as u8
+    }
+
+    /// Whether a depot that stands there is engaged in the handover: at `Offered` and at `Accepted`.
+    #[tactic(auto, unfolding(crate::specs::State::engages))]
+    pub fn engages(self) -> bool
+        ensures { result ≡ engages (standing_number self) }
+    {
+        matches!(self, Standing::Offered | Standing::Accepted)
     }
 }

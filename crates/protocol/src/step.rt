@@ -7,7 +7,7 @@ use crate::Standing;
 use letters::Kind;
 
 /// To whom the letter of a step goes.
-#[derive(Clone, Copy)]
+#[derive(Clone, Copy, PartialEq, Eq, Debug)]
 pub enum Whom {
     /// To the leader of the handover.
     Leader,
@@ -18,7 +18,7 @@ pub enum Whom {
 }
 
 /// What a letter that was received calls for.
-#[derive(Clone, Copy)]
+#[derive(Clone, Copy, PartialEq, Eq, Debug)]
 pub enum Step {
     /// No line is there for the letter.
     Unlined,
@@ -45,7 +45,7 @@ pub enum Step {
 }
 
 /// What the guards of the lines look at: who sent the letter, who received it, and what it carries.
-#[derive(Clone, Copy)]
+#[derive(Clone, Copy, PartialEq, Eq, Debug)]
 pub struct Situation {
     /// The sender is the leader.
     pub from_leader: bool,
