@@ -3,14 +3,14 @@
 use Rattle.std.proofs.Common.{◌≡◌, ℕ, ◌+◌, ◌≤◌, Bool, true, false, cond, ◌&&◌, ◌||◌, eqb, ◌⊎◌, List, [], ◌∷◌, sym, refl, ap, ◌∙◌, subst, inl, inr, arith}
 use mathlib.Core.Path.{fun_ext}
 use Rattle.std.proofs.lemmas.Bool.Decides.{nat_tests}
-use Rattle.std.proofs.lemmas.Bool.{eq-eqb, ne_eqb, and_from, cases_eq, cases_Bool, cond-true, cond-false}
+use Rattle.std.proofs.lemmas.Bool.{eq-eqb, ne_eqb, and_from, and_right, cases_eq, cases_Bool, cond-true, cond-false}
 use Rattle.entries.specs.declared.lists.Entry.{Entry}
 use Rattle.policies.specs.Shares.{share_of}
-use Rattle.protocol.specs.Calls.{Call, Hand, list_carried, once, accepts, ends_at}
+use Rattle.protocol.specs.Calls.{Call, Hand, once, accepts, ends_at}
 use Rattle.protocol.specs.Law.{HasAccepted}
 use Rattle.protocol.specs.Listing.{every, same}
 use Rattle.protocol.specs.Opening.{Opening, LawfulOpening, sum_to, total}
-use Rattle.protocol.specs.Outcome.{Outcome, after, sends}
+use Rattle.protocol.specs.Outcome.{after}
 use Rattle.protocol.specs.Policy.{Policy, LawfulPolicy}
 use Rattle.protocol.specs.Promises.{Agreed, Conservation}
 use Rattle.protocol.specs.Series.{Stage, just_opened, outcome, Allowed, Series, start, then}
@@ -22,8 +22,7 @@ use Rattle.protocol.proofs.Dues.{balance}
 use Rattle.protocol.proofs.Firm.{firmly, due_of, due_no, due as dueBy}
 use Rattle.protocol.proofs.History.{has_accepted, acc_true, true_acc}
 use Rattle.protocol.proofs.Counted.{ended_next, accepted_next}
-use Rattle.protocol.proofs.Invariant.{restarts, Invariant, Handled, called_explained}
-use Rattle.protocol.proofs.Invariant.{hand_is, hand_history, hand_or, invariant}
+use Rattle.protocol.proofs.Invariant.{Invariant, Handled, by_call, hand_is, hand_history, invariant}
 
 zero_more : (n : ℕ) → 0 + n ≡ n
 zero_more n = omega arith
@@ -37,16 +36,13 @@ ends_same : (k : ℕ) (r : Row) → 3 ≤ k → ends_at k r r ≡ false
 unfolding ends_at engages
 ends_same k r h = grind (arith, nat_tests)
 
+-- nor does anything else that is tested with it count
 never : (n : ℕ) (c e f : Bool) → f ≡ false → n + once (c && (e && f)) ≡ n
-never n true true f h = let q = ap once h in omega arith
-never n true false f h = omega arith
-never n false e f h = omega arith
+never n c e f h = let q = ap once (and_right c _ (and_right e f h)) in omega arith
 
 pick_never : {A : Type 0} (c e f : Bool) (x y : A) → f ≡ false → pick (c && (e && f)) x y ≡ y
 unfolding pick
-pick_never true true f x y h = cond-false f x y h
-pick_never true false f x y h = refl
-pick_never false e f x y h = refl
+pick_never c e f x y h = cond-false _ x y (and_right c _ (and_right e f h))
 
 pub record Accounted {P : Policy} {o : Opening} {w : Stage} (s : Series P o (just_opened o) w) : Type 0 where
   pub settled : (x L n : ℕ) → w.settled x L n ≡ once (eqb (past_of s x L n) 4)
@@ -54,7 +50,7 @@ pub record Accounted {P : Policy} {o : Opening} {w : Stage} (s : Series P o (jus
   pub accepted : (x L n : ℕ) → w.accepted x L n ≡ cond (has_accepted (past_of s x L n)) (lists_of s L n ∷ []) []
   pub balanced : sum_to o.n (dueBy o.n P (history s)) + w.issued ≡ total o + w.returned
 
-module _ (P : Policy) (lawful : LawfulPolicy P) (o : Opening) where
+module _ {P : Policy} (lawful : LawfulPolicy P) {o : Opening} where
   accounted_start : Accounted {P = P} {o = o} start
   unfolding has_accepted
   accounted_start =
@@ -67,7 +63,7 @@ module _ (P : Policy) (lawful : LawfulPolicy P) (o : Opening) where
             ∙ zero_more (o.shares x)) in omega arith);
       }
 
-  module _ {w : Stage} (s : Series P o (just_opened o) w) (h : Invariant s) (t : Accounted s) (d : ℕ) where
+  module _ {w : Stage} {s : Series P o (just_opened o) w} (h : Invariant s) (t : Accounted s) (d : ℕ) where
     hand_accounted : (a : Allowed w d Hand) → Accounted (then s d Hand a)
     hand_accounted a =
         record {
@@ -83,48 +79,37 @@ module _ (P : Policy) (lawful : LawfulPolicy P) (o : Opening) where
         }
       where
         same_history : history (then s d Hand a) ≡ history s
-        same_history = hand_history P lawful o s h d a
+        same_history = hand_history h d a
 
         ends : (k L : ℕ) → 3 ≤ k → ends_at k ((w.at d).rows L) ((after (w.at d) (outcome P o w d Hand)).rows L) ≡ false
-        ends k L l = ap (λ u. ends_at k ((w.at d).rows L) (u.rows L)) (hand_is P lawful o s h d).same
+        ends k L l = ap (λ u. ends_at k ((w.at d).rows L) (u.rows L)) (hand_is h d).same
             ∙ ends_same k ((w.at d).rows L) l
 
         takes : (L : ℕ) → accepts ((w.at d).rows L) ((after (w.at d) (outcome P o w d Hand)).rows L) ≡ false
-        takes L = ap (λ u. accepts ((w.at d).rows L) (u.rows L)) (hand_is P lawful o s h d).same
+        takes L = ap (λ u. accepts ((w.at d).rows L) (u.rows L)) (hand_is h d).same
             ∙ accepts_same ((w.at d).rows L)
 
-    other_accounted : (c : Call) (a : Allowed w d c) → Handled P lawful o s h d c → Accounted (then s d c a)
-    other_accounted c a k =
+    handled_accounted : (c : Call) (a : Allowed w d c) → Handled s d c → Accounted (then s d c a)
+    handled_accounted c a k =
+        let does = k.explained.effect in
         record {
-          settled = ended_next o.n P (history s) d (restarts c) (list_carried (w.at d) c) k.low h.safe _
-              (sends r) _ _ k.explained.effect 4 (omega arith) w.settled t.settled;
-          dropped = ended_next o.n P (history s) d (restarts c) (list_carried (w.at d) c) k.low h.safe _
-              (sends r) _ _ k.explained.effect 5 (omega arith) w.dropped t.dropped;
-          accepted = accepted_next o.n P (history s) d (restarts c) (list_carried (w.at d) c) k.low h.safe _
-              (sends r) _ _ k.explained.effect w.accepted t.accepted;
-          balanced = (let e = balance o.n P (history s) d (restarts c) (list_carried (w.at d) c) k.low
-              h.safe lawful _ (sends r) _ _ k.explained.effect in let b = t.balanced in omega arith);
+          settled = ended_next k.low h.safe does 4 (omega arith) w.settled t.settled;
+          dropped = ended_next k.low h.safe does 5 (omega arith) w.dropped t.dropped;
+          accepted = accepted_next k.low h.safe does w.accepted t.accepted;
+          balanced = (let e = balance k.low h.safe lawful does in let b = t.balanced in omega arith);
         }
-      where
-        r : Outcome
-        r = outcome P o w d c
 
-    accounted_next : (c : Call) (a : Allowed w d c) → Accounted (then s d c a)
-    accounted_next c a = elim (hand_or P lawful o s h d c a) [
-      | inl e ↦ at_hand c a e
-      | inr (n, _, _) ↦ other_accounted c a (called_explained P lawful o s h d c a n)
-    ]
-      where
-        at_hand : (c : Call) (a : Allowed w d c) → c ≡ Hand → Accounted (then s d c a)
-        at_hand c a e = subst (λ z. (a : Allowed w d z) → Accounted (then s d z a)) (sym e) hand_accounted a
-
-  pub accounted : LawfulOpening o → {w : Stage} (s : Series P o (just_opened o) w) → Accounted s
-  accounted ok start = accounted_start
-  accounted ok (then s d c a) = accounted_next s (invariant P lawful o ok s) (accounted ok s) d c a
+  module _ (ok : LawfulOpening o) where
+    accounted : {w : Stage} (s : Series P o (just_opened o) w) → Accounted s
+    accounted start = accounted_start
+    accounted (then s d c a) =
+        let h = invariant lawful ok s in
+        let t = accounted s in
+        by_call lawful h d (λ c a. Accounted (then s d c a)) (hand_accounted h t d) (handled_accounted h t d) c a
 
   module _ (ok : LawfulOpening o) {w : Stage} (s : Series P o (just_opened o) w) where
     h : Invariant s
-    h = invariant P lawful o ok s
+    h = invariant lawful ok s
 
     t : Accounted s
     t = accounted ok s

@@ -1,11 +1,10 @@
 -- How often a depot has accepted, settled and dropped, by the calls of a series, is what its last standing says: a row
 -- moves to such a standing once, and never from it.
 use Rattle.std.proofs.Common.{◌≡◌, ℕ, ◌+◌, ◌<◌, ◌≤◌, Bool, true, false, cond, ◌&&◌, ◌||◌, eqb, ◌⊎◌, List, [], ◌∷◌, sym, refl, ap, ◌∙◌, subst, ap₂, inl, inr, arith}
-use mathlib.Core.Option.{Option}
+use mathlib.Core.Option.{none}
 use Rattle.std.proofs.lemmas.Bool.Decides.{nat_tests}
 use Rattle.std.proofs.lemmas.Bool.{eqb-true, eq-eqb, ne_eqb, and_parts, or_cases, cases_eq, cases_Bool, cond-true, cond-false}
 use Rattle.entries.specs.declared.lists.Entry.{Entry}
-use Rattle.letters.specs.Contents.{Contents}
 use Rattle.protocol.specs.Calls.{once, accepts, ends_at}
 use Rattle.protocol.specs.Law.{HasAccepted, Engages}
 use Rattle.protocol.specs.Policy.{Policy}
@@ -57,13 +56,13 @@ module _ (c : ℕ) (w : History) (d L n k k' j j' : ℕ) (f : k' ≡ j')
   ends_row m l e (settles p q _ _ _) = grind (arith, nat_tests)
   ends_row m l e (drops p q _ _ _ _) = grind (arith, nat_tests)
 
-module _ (N : ℕ) (P : Policy) (w : History) (d : ℕ) (z : Bool) (ℓ₀ : List Entry) (d<N : d < N) (g : Safe N w)
-    (s : State) (o : Option Contents) (i j : ℕ) (does : Effect N P w d z ℓ₀ s i j) where
+module _ {N : ℕ} {P : Policy} {w : History} {d : ℕ} {z : Type 0} {ℓ₀ : List Entry} (d<N : d < N) (g : Safe N w)
+    {s : State} {i j : ℕ} (does : Effect N P w d z ℓ₀ s i j) where
   abbrev w' : History
-  w' = next w d s o
+  w' = next w d s none
 
   mv : RowMove N w d s
-  mv = move_of N P w d z ℓ₀ d<N g s i j does
+  mv = move_of d<N g does
 
   -- the list that a call lays out, where it accepts one
   tray_empty : (L : ℕ) → standing w d L ≡ 1 → ((s.rows L).standing ≡ 2) ⊎ ((s.rows L).standing ≡ 4) →
@@ -105,12 +104,12 @@ module _ (N : ℕ) (P : Policy) (w : History) (d : ℕ) (z : Bool) (ℓ₀ : Lis
       go t q (lead f u) = absurd (f L (omega arith))
       go t q (offer b M n st l f u a) = absurd (f L (omega arith))
       go t q (propose e₀ h f u) = let (_, k) = set t d _ 2 q refl in
-          e₀ ∙ (ap (λ x. x.list) (sym q) ∙ list_d N w d g s o mv L k)
+          e₀ ∙ (ap (λ x. x.list) (sym q) ∙ list_d g mv L k)
       go t q (accept b M ℓ e₀ st h a r f u) = let (_, k) = set t M _ 2 q refl in
-          e₀ ∙ (ap (λ x. x.list) (sym q) ∙ list_d N w d g s o mv L k)
+          e₀ ∙ (ap (λ x. x.list) (sym q) ∙ list_d g mv L k)
       go t q (join b M ℓ e₀ st h a r f u) = let (x, k) = set t M _ 4 q refl in let n = number_set t M _ 4 q refl in
           e₀
-          ∙ (r ∙ (sym (lists_kept N w d g s o mv M (number w d M) a)
+          ∙ (r ∙ (sym (lists_kept g mv M (number w d M) a)
           ∙ (ap (w'.lists M) (sym n) ∙ ap (λ y. w'.lists y (s.rows y).number) (sym x))))
       go t q (refuse b M st h) = absurd (not_3 3 (set t M _ 3 q refl).1 (omega arith) (omega arith))
       go t q (settle b M st h a) = absurd (let (x, _) = set t M _ 4 q refl in
@@ -121,11 +120,11 @@ module _ (N : ℕ) (P : Policy) (w : History) (d : ℕ) (z : Bool) (ℓ₀ : Lis
       ⊎ ((Engages (standing w d L) → ⊥) × (Engages (w.past d L n) → ⊥))
   was L n e = elim (cases_eq (number w d L) n) [
     | inl u ↦ inl (ap (w.past d L) (sym u) ∙ (g.own d).now L)
-    | inr u ↦ inr ((λ b. u (sym (engaged N w d g s o mv L b) ∙ sym e)), λ b. u ((g.own d).live L n b))
+    | inr u ↦ inr ((λ b. u (sym (engaged g mv L b) ∙ sym e)), λ b. u ((g.own d).live L n b))
   ]
 
   now_at : (L n : ℕ) → n ≡ (s.rows L).number → w'.past d L n ≡ (s.rows L).standing
-  now_at L n e = ap (w'.past d L) e ∙ now_d N w d g s o mv L
+  now_at L n e = ap (w'.past d L) e ∙ now_d g mv L
 
   -- an event that is tested at d's row, counted, for a test of last standings
   module _ (T : ℕ → Bool) (t : ℕ → ℕ → Bool) (E : ℕ → ℕ → ℕ → ℕ) (ih : (x L n : ℕ) → E x L n ≡ once (T (w.past x L n)))
@@ -173,7 +172,7 @@ module _ (N : ℕ) (P : Policy) (w : History) (d : ℕ) (z : Bool) (ℓ₀ : Lis
   ended_next m l E ih =
       count_next (λ k. eqb k m) (λ j j'. (eqb j 1 || eqb j 2) && eqb j' m) E ih
       (λ L n e. ends_row (E d L n) w d L n (w.past d L n) (w'.past d L n) (standing w d L) (s.rows L).standing
-      (now_at L n e) (was L n e) m l (ih d L n) (turn N w d g s o mv L n))
+      (now_at L n e) (was L n e) m l (ih d L n) (turn g mv L n))
 
   -- the list that was accepted goes with its handover
   abbrev list_if : (ℕ → ℕ → List Entry) → ℕ → ℕ → Bool → List (List Entry)
@@ -184,7 +183,7 @@ module _ (N : ℕ) (P : Policy) (w : History) (d : ℕ) (z : Bool) (ℓ₀ : Lis
   same_list x L n =
       elim (cases_Bool (has_accepted (w.past x L n))) [
         | inl q ↦ ap (λ u. cond (has_accepted (w.past x L n)) (u ∷ []) [])
-            (lists_kept N w d g s o mv L n (g.led x L n (acc_true _ q)))
+            (lists_kept g mv L n (g.led x L n (acc_true _ q)))
         | inr q ↦ cond-false _ _ _ q ∙ sym (cond-false _ _ _ q)
       ]
 
@@ -229,6 +228,6 @@ module _ (N : ℕ) (P : Policy) (w : History) (d : ℕ) (z : Bool) (ℓ₀ : Lis
           (λ x L n. once (has_accepted (w.past x L n))) (λ _ _ _. refl)
           (λ L n e. accepts_row (once (has_accepted (w.past d L n))) w d L n (w.past d L n) (w'.past d L n)
           (standing w d L) (s.rows L).standing (now_at L n e) (was L n e) refl
-          (turn N w d g s o mv L n)) x L n in
+          (turn g mv L n)) x L n in
           let r = ap once e in
           same_once _ _ (omega arith)

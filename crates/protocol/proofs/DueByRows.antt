@@ -14,7 +14,7 @@ use Rattle.protocol.specs.Series.{Stage, just_opened, Series}
 use Rattle.protocol.specs.State.{pick, any}
 use Rattle.protocol.specs.Words.{stands, bound_to_standing, due}
 use Rattle.protocol.specs.ByRows.{accepted_by_row, stands_by_rows, bound_by_rows, due_by_rows, DueByRows}
-use Rattle.protocol.proofs.History.{past_of, history, has_accepted}
+use Rattle.protocol.proofs.History.{past_of, has_accepted}
 use Rattle.protocol.proofs.Invariant.{Invariant, invariant}
 use Rattle.protocol.proofs.Accounts.{stands_is}
 use Rattle.protocol.proofs.Replies.{pinned, list_x}
@@ -37,10 +37,10 @@ accepted_standing : (k : ℕ) → k ≤ 5 → has_accepted k ≡ (eqb k 2 || (eq
 unfolding has_accepted
 accepted_standing k l = grind (arith, nat_tests)
 
-module _ (P : Policy) (lawful : LawfulPolicy P) (o : Opening) (ok : LawfulOpening o) {w : Stage}
+module _ {P : Policy} (lawful : LawfulPolicy P) {o : Opening} (ok : LawfulOpening o) {w : Stage}
     (s : Series P o (just_opened o) w) where
   h : Invariant s
-  h = invariant P lawful o ok s
+  h = invariant lawful ok s
 
   module _ (x L : ℕ) (bound : ((w.at x).rows L).standing ≡ 2) where
     abbrev n : ℕ
@@ -62,8 +62,8 @@ module _ (P : Policy) (lawful : LawfulPolicy P) (o : Opening) (ok : LawfulOpenin
 
         at_n : ((w.at y).rows L).number ≡ n
         at_n =
-            pinned o.n (history s) h.safe h.leaders x L n bound_last y
-            (ap (λ ℓ. on ℓ y) (sym (list_x o.n (history s) h.safe h.leaders x L n bound_last)) ∙ listed)
+            pinned h.safe h.leaders x L n bound_last y
+            (ap (λ ℓ. on ℓ y) (sym (list_x h.safe h.leaders x L n bound_last)) ∙ listed)
 
         last : past_of s y L n ≡ k
         last = ap (past_of s y L) (sym at_n) ∙ (h.safe.own y).now L
@@ -71,7 +71,7 @@ module _ (P : Policy) (lawful : LawfulPolicy P) (o : Opening) (ok : LawfulOpenin
     stands_by_rows_lem : stands w L n (w.at x).list ≡ stands_by_rows w.at L n (w.at x).list
     unfolding stands_by_rows
     stands_by_rows_lem =
-        stands_is P lawful o ok s x L bound
+        stands_is lawful ok s x L bound
         ∙ every_same (w.at x).list (λ y. has_accepted (past_of s y L n)) (accepted_by_row w.at L n) row_tells
 
   bound_by_rows_lem : (x : ℕ) → bound_to_standing o w x ≡ bound_by_rows o w.at x
@@ -89,4 +89,4 @@ module _ (P : Policy) (lawful : LawfulPolicy P) (o : Opening) (ok : LawfulOpenin
       (bound_by_rows_lem x)
 
 pub due_by_rows_lem : DueByRows
-due_by_rows_lem P lawful o ok w s x = due_rows P lawful o ok s x
+due_by_rows_lem P lawful o ok w s x = due_rows lawful ok s x

@@ -1,11 +1,10 @@
 -- The pieces due, over a call: each effect changes only the due of its depot, by what is issued and returned, but the
 -- last acceptance of a list, where each listed depot's due goes from its shelf to its share.
-use Rattle.std.proofs.Common.{◌≡◌, ℕ, ◌+◌, ◌<◌, Bool, true, false, cond, ◌⊎◌, List, sym, refl, ap, ◌∙◌, subst, ap₂, inl, inr, arith}
-use mathlib.Core.Option.{Option}
+use Rattle.std.proofs.Common.{◌≡◌, ℕ, ◌+◌, ◌<◌, true, false, cond, ◌⊎◌, List, sym, refl, ap, ◌∙◌, subst, ap₂, inl, inr, arith}
+use mathlib.Core.Option.{none}
 use Rattle.std.proofs.lemmas.Bool.Decides.{nat_tests}
 use Rattle.std.proofs.lemmas.Bool.{cases_Bool, cases_eq, both_ways}
 use Rattle.entries.specs.declared.lists.Entry.{Entry}
-use Rattle.letters.specs.Contents.{Contents}
 use Rattle.entries.specs.Lists.{on, entry_of}
 use Rattle.protocol.specs.Law.{HasAccepted, Engages}
 use Rattle.protocol.specs.Listing.{every}
@@ -25,8 +24,7 @@ use Rattle.protocol.proofs.RowMoves.{move_of}
 use Rattle.protocol.proofs.SafeNext.{else_past, accs, low, acc_2}
 use Rattle.protocol.proofs.Firm.{firmly, due_of, due, Firm, Low, firm_same, due_yes, due_no, due_same}
 
-module _ (N : ℕ) (P : Policy) (w : History) (d : ℕ) (z : Bool) (ℓ₀ : List Entry) (d<N : d < N) (g : Safe N w)
-    (lawful : LawfulPolicy P) where
+module _ {N : ℕ} {w : History} {d : ℕ} (d<N : d < N) (g : Safe N w) {P : Policy} (lawful : LawfulPolicy P) where
   abbrev p : ℕ → ℕ → ℕ → ℕ
   p = w.past
 
@@ -41,16 +39,19 @@ module _ (N : ℕ) (P : Policy) (w : History) (d : ℕ) (z : Bool) (ℓ₀ : Lis
   alone : (M : ℕ) → Engages (standing w d M) → (L : ℕ) → standing w d L ≡ 2 → L ≡ M
   alone M e L a = g.single d L M (omega arith) e
 
-  module _ (s : State) (o : Option Contents) (i j : ℕ) where
+  module _ (s : State) where
     abbrev p' : ℕ → ℕ → ℕ → ℕ
-    p' = (next w d s o).past
+    p' = (next w d s none).past
 
     -- nobody has accepted anew
     abbrev NoNew : Type 0
     NoNew = (x L n : ℕ) → HasAccepted (p' x L n) → HasAccepted (p x L n)
 
-    same_new : s.rows ≡ (w.at d).rows → (x L n : ℕ) → p' x L n ≡ p x L n
-    same_new e x L n = let r = ap (λ u. u L) e in let q = (g.own d).now L in grind (arith, nat_tests)
+    same_past : s.rows ≡ (w.at d).rows → (x L n : ℕ) → p' x L n ≡ p x L n
+    same_past e x L n = let r = ap (λ u. u L) e in let q = (g.own d).now L in grind (arith, nat_tests)
+
+    same_new : s.rows ≡ (w.at d).rows → NoNew
+    same_new e x L n a = rw (same_past e x L n) at a
 
     -- one point of the past moves
     point : (M m k : ℕ) → s.rows ≡ upd (w.at d).rows M (record { number = m; standing = k }) → (x L n : ℕ) →
@@ -70,31 +71,39 @@ module _ (N : ℕ) (P : Policy) (w : History) (d : ℕ) (z : Bool) (ℓ₀ : Lis
           | inr u ↦ u.0 (f L (cc))
         ]
 
-    data DueMove : Type 0 where
-      calm : NoNew → due_of N P p' s d + i ≡ due_of N P p (w.at d) d + j → DueMove
+    -- rows and list as they were
+    firm_kept : s.rows ≡ (w.at d).rows → s.list ≡ (w.at d).list → firmly N p' s.rows s.list
+        ≡ firmly N p (w.at d).rows (w.at d).list
+    firm_kept e f = ap₂ (firmly N p') e f ∙ firm_same N p p' (w.at d) (g.small d)
+        (λ (L, a, b). (L, a, λ y k. rw (same_past e y L (number w d L)) (b y k)))
+        (λ (L, a, b). (L, a, λ y k. same_new e y L _ (b y k)))
+
+    data DueMove (i j : ℕ) : Type 0 where
+      calm : NoNew → due_of N P p' s d + i ≡ due_of N P p (w.at d) d + j → DueMove i j
       firms : (M k : ℕ) (ℓ : List Entry) → s.rows ≡ upd (w.at d).rows M
           (record { number = number w d M; standing = k }) → HasAccepted k → standing w d M ≡ 1 →
           BindingList N d (w.at d).shelf ℓ → on ℓ d ≡ true → (entry_of ℓ d).shelf ≡ (w.at d).shelf →
           (M ≡ d) ⊎ (HasAccepted (p M M (number w d M)) × (ℓ ≡ w.lists M (number w d M))) → i ≡ 0 → j ≡ 0 →
           (((y : ℕ) → on ℓ y ≡ true → HasAccepted (p' y M (number w d M))) → due_of N P p' s d ≡ (w.at d).tray + share_of
           P.share ℓ d) → ((((y : ℕ) → on ℓ y ≡ true → HasAccepted (p' y M (number w d M))) → ⊥) → due_of N P p' s d
-          ≡ (w.at d).tray + (w.at d).shelf) → DueMove
+          ≡ (w.at d).tray + (w.at d).shelf) → DueMove i j
 
     at_point : (M m k : ℕ) → s.rows ≡ upd (w.at d).rows M (record { number = m; standing = k }) → p' d M m ≡ k
     at_point M m k e = let r = ap (λ u. u M) e in grind (arith, nat_tests, upd_tells)
 
+  module _ {s : State} {i j : ℕ} where
     binds : (M : ℕ) (ℓ : List Entry) → s.rows ≡ upd (w.at d).rows M (record { number = number w d M; standing = 2 })
         → s.list ≡ ℓ → s.tray ≡ (w.at d).tray → s.shelf ≡ (w.at d).shelf → Low N s → standing w d M ≡ 1 →
         BindingList N d (w.at d).shelf ℓ → on ℓ d ≡ true → (entry_of ℓ d).shelf ≡ (w.at d).shelf →
-        (M ≡ d) ⊎ (HasAccepted (p M M (number w d M)) × (ℓ ≡ w.lists M (number w d M))) → i ≡ 0 → j ≡ 0 → DueMove
+        (M ≡ d) ⊎ (HasAccepted (p M M (number w d M)) × (ℓ ≡ w.lists M (number w d M))) → i ≡ 0 → j ≡ 0 → DueMove s i j
     binds M ℓ e l t h low b r x y c a' b' =
         firms M 2 ℓ e (omega arith) b r x y c a' b'
-        (λ all. due_yes N P p' s d low
-        (M, row_s, λ y k. subst (λ n. HasAccepted (p' y M n)) (sym row_n) (all y (sym (ap (λ u. on u y) l) ∙ k)))
+        (λ all. due_yes N P (p' s) s d low
+        (M, row_s, λ y k. subst (λ n. HasAccepted (p' s y M n)) (sym row_n) (all y (sym (ap (λ u. on u y) l) ∙ k)))
         ∙ ap₂ (λ m u. m + share_of P.share u d) t l)
-        (λ none. due_no N P p' s d (λ (L, a, f). none
-        (λ y k. subst (λ n. HasAccepted (p' y M n)) row_n
-        (subst (λ u. HasAccepted (p' y u (s.rows u).number)) (bound_at L a) (f y (ap (λ u. on u y) l ∙ k)))))
+        (λ none. due_no N P (p' s) s d (λ (L, a, f). none
+        (λ y k. subst (λ n. HasAccepted (p' s y M n)) row_n
+        (subst (λ u. HasAccepted (p' s y u (s.rows u).number)) (bound_at L a) (f y (ap (λ u. on u y) l ∙ k)))))
         ∙ ap₂ (λ m n. m + n) t h)
       where
         row_s : (s.rows M).standing ≡ 2
@@ -110,86 +119,80 @@ module _ (N : ℕ) (P : Policy) (w : History) (d : ℕ) (z : Bool) (ℓ₀ : Lis
               | inr u ↦ alone M (omega arith) L (cc)
             ]
 
-    -- rows and list as they were
-    firm_kept : s.rows ≡ (w.at d).rows → s.list ≡ (w.at d).list → firmly N p' s.rows s.list
-        ≡ firmly N p (w.at d).rows (w.at d).list
-    firm_kept e f = ap₂ (firmly N p') e f ∙ firm_same N p p' (w.at d) (g.small d)
-        (λ (L, a, b). (L, a, λ y k. rw (same_new e y L (number w d L)) (b y k)))
-        (λ (L, a, b). (L, a, λ y k. rw (same_new e y L (number w d L)) at (b y k)))
-
     kept : s.rows ≡ (w.at d).rows → s.list ≡ (w.at d).list → s.shelf ≡ (w.at d).shelf →
-        s.tray + i ≡ (w.at d).tray + j → DueMove
+        s.tray + i ≡ (w.at d).tray + j → DueMove s i j
     unfolding due_of
-    kept e f h k = calm (λ x L n a. rw (same_new e x L n) at a)
+    kept e f h k = calm (same_new s e)
         (let
-        q : cond (firmly N p' s.rows s.list) (share_of P.share s.list d) s.shelf
+        q : cond (firmly N (p' s) s.rows s.list) (share_of P.share s.list d) s.shelf
         ≡ cond (firmly N p (w.at d).rows (w.at d).list) (share_of P.share (w.at d).list d) (w.at d).shelf =
-        (let b = firm_kept e f in cc) in omega arith)
+        (let b = firm_kept s e f in cc) in omega arith)
 
     -- loose before and after
-    idle : NoNew → (Firm p (w.at d) → ⊥) → (Firm p' s → ⊥) → s.tray + s.shelf + i
-        ≡ (w.at d).tray + (w.at d).shelf + j → DueMove
-    idle n a b e = calm n (let q = due_no N P p (w.at d) d a in let r = due_no N P p' s d b in omega arith)
+    idle : NoNew s → (Firm p (w.at d) → ⊥) → (Firm (p' s) s → ⊥) →
+        s.tray + s.shelf + i ≡ (w.at d).tray + (w.at d).shelf + j → DueMove s i j
+    idle n a b e = calm n (let q = due_no N P p (w.at d) d a in let r = due_no N P (p' s) s d b in omega arith)
 
     ends : (M m k : ℕ) → s.rows ≡ upd (w.at d).rows M (record { number = m; standing = k }) → (k ≡ 2 → ⊥) →
         (HasAccepted k → HasAccepted (p d M m)) → (Firm p (w.at d) → ⊥) → ((L : ℕ) → standing w d L ≡ 2 → L ≡ M) →
-        s.tray + s.shelf + i ≡ (w.at d).tray + (w.at d).shelf + j → DueMove
-    ends M m k e n f a c h = idle (set_new M m k e f) a (loose_after M m k e n c) h
+        s.tray + s.shelf + i ≡ (w.at d).tray + (w.at d).shelf + j → DueMove s i j
+    ends M m k e n f a c h = idle (set_new s M m k e f) a (loose_after s M m k e n c) h
 
-  low_of : (s : State) (o : Option Contents) (i j : ℕ) → Effect N P w d z ℓ₀ s i j → Low N s
-  low_of s o i j does = low N w d g s o (move_of N P w d z ℓ₀ d<N g s i j does)
+  module _ {z : Type 0} {ℓ₀ : List Entry} where
+    low_of : {s : State} {i j : ℕ} → Effect N P w d z ℓ₀ s i j → Low N s
+    low_of does = low g (move_of d<N g does)
 
-  up : (s : State) (o : Option Contents) (i j : ℕ) → Effect N P w d z ℓ₀ s i j → (x L n : ℕ) → HasAccepted (p x L n) →
-      HasAccepted (p' s o i j x L n)
-  up s o i j does = accs N w d g s o (move_of N P w d z ℓ₀ d<N g s i j does)
+    up : {s : State} {i j : ℕ} → Effect N P w d z ℓ₀ s i j → (x L n : ℕ) → HasAccepted (p x L n) →
+        HasAccepted (p' s x L n)
+    up does = accs g (move_of d<N g does)
 
-  due_move : (s : State) (o : Option Contents) (i j : ℕ) → Effect N P w d z ℓ₀ s i j → DueMove s o i j
-  due_move s o i j (keep b st) = kept s o i j refl refl refl refl
-  due_move s o i j (issue n f l) = idle s o i j (λ x L m a. rw (same_new s o i j refl x L m) at a) (loose_free f)
-      (λ (L, a, b). f L (omega arith)) (omega arith)
-  due_move s o i j (return n f) = idle s o i j (λ x L m a. rw (same_new s o i j refl x L m) at a) (loose_free f)
-      (λ (L, a, b). f L (omega arith)) (omega arith)
-  due_move s o i j (lay n) = kept s o i j refl refl refl (omega arith)
-  due_move s o i j (want n f) = kept s o i j refl refl refl refl
-  due_move s o i j (hear b L y st e a u) = kept s o i j refl refl refl refl
-  due_move s o i j (restart L e b) = kept s o i j refl refl refl refl
-  due_move s o i j (lead f u) = ends s o i j d _ 1 refl (omega arith) (λ a. absurd (omega arith)) (loose_free f)
-      (λ L a. absurd (f L (omega arith))) (omega arith)
-  due_move s o i j (offer b L n st l f u a) = ends s o i j L n 1 refl (omega arith) (λ a. absurd (omega arith))
-      (loose_free f) (λ M a. absurd (f M (omega arith))) (omega arith)
-  due_move s o i j (gather b e st h a) = kept s o i j refl refl refl refl
-  due_move s o i j (propose e₀ e f u) =
-      (binds s o i j d (w.at d).gathered refl refl refl refl (low_of s o i j (propose e₀ e f u)) e f f.me
-      f.mine (inl refl) refl refl)
-  due_move s o i j (accept b L ℓ e₀ st e a q f u) =
-      (binds s o i j L ℓ refl refl refl refl (low_of s o i j (accept b L ℓ e₀ st e a q f u)) e f f.me
-      f.mine (inr (a, q)) refl refl)
-  due_move s o i j (join b L ℓ e₀ st e a q f u) = (
-      firms L 4 ℓ refl (omega arith) e f f.me f.mine (inr (a, q)) refl refl
-      (λ _. let v = due_no N P (p' s o i j) s d
-      (loose_after s o i j L _ 4 refl (omega arith) (alone L (omega arith))) in omega arith)
-      (λ n. absurd
-      (n (λ y k. elim (in_pair (site_of N P d) L y (every_one ℓ _ y u k)) [
-        | inl v ↦ rw v (let c = at_point s o i j L _ 4 refl in omega arith)
-        | inr v ↦ rw v (up s o i j (join b L ℓ e₀ st e a q f u) L L _ a)
-      ]))))
-  due_move s o i j (refuse b L st e) = ends s o i j L _ 3 refl (omega arith) (λ a. absurd (omega arith)) (loose L e)
-      (alone L (omega arith)) (omega arith)
-  due_move s o i j (settle b L st e a) = calm (set_new s o i j L _ 4 refl (λ _. let q = (g.own d).now L in omega arith))
-      (let q = due_yes N P p (w.at d) d (g.small d) (L, e, λ y k. a y (sym (ap (λ ℓ. on ℓ y) (g.list d L e)) ∙ k)) in
-      let r = due_no N P (p' s o i j) s d (loose_after s o i j L _ 4 refl (omega arith) (alone L (omega arith))) in
-      omega arith)
-  due_move s o i j (drop b L y st e a h) = ends s o i j L _ 5 refl (omega arith) (λ _. let q = (g.own d).now L in
-      omega arith) (λ (M, x, f). let q = alone L (omega arith) M x in
-      (subst (λ u. HasAccepted (p y u (number w d u))) q (f y (ap (λ ℓ. on ℓ y) (g.list d L e) ∙ a))).1 h)
-      (alone L (omega arith)) (omega arith)
+    due_move : {s : State} {i j : ℕ} → Effect N P w d z ℓ₀ s i j → DueMove s i j
+    due_move (keep b st) = kept refl refl refl refl
+    due_move {s = s} (issue n f l) = idle (same_new s refl) (loose_free f)
+        (λ (L, a, b). f L (omega arith)) (omega arith)
+    due_move {s = s} (return n f) = idle (same_new s refl) (loose_free f)
+        (λ (L, a, b). f L (omega arith)) (omega arith)
+    due_move (lay n) = kept refl refl refl (omega arith)
+    due_move (want n f) = kept refl refl refl refl
+    due_move (hear b L y st e a u) = kept refl refl refl refl
+    due_move (restart L e b) = kept refl refl refl refl
+    due_move (lead f u) = ends d _ 1 refl (omega arith) (λ a. absurd (omega arith)) (loose_free f)
+        (λ L a. absurd (f L (omega arith))) (omega arith)
+    due_move (offer b L n st l f u a) = ends L n 1 refl (omega arith) (λ a. absurd (omega arith))
+        (loose_free f) (λ M a. absurd (f M (omega arith))) (omega arith)
+    due_move (gather b e st h a) = kept refl refl refl refl
+    due_move (propose e₀ e f u) =
+        (binds d (w.at d).gathered refl refl refl refl (low_of (propose e₀ e f u)) e f f.me
+        f.mine (inl refl) refl refl)
+    due_move (accept b L ℓ e₀ st e a q f u) =
+        (binds L ℓ refl refl refl refl (low_of (accept b L ℓ e₀ st e a q f u)) e f f.me
+        f.mine (inr (a, q)) refl refl)
+    due_move {s = s} (join b L ℓ e₀ st e a q f u) = (
+        firms L 4 ℓ refl (omega arith) e f f.me f.mine (inr (a, q)) refl refl
+        (λ _. let v = due_no N P (p' s) s d
+        (loose_after s L _ 4 refl (omega arith) (alone L (omega arith))) in omega arith)
+        (λ n. absurd
+        (n (λ y k. elim (in_pair (site_of N P d) L y (every_one ℓ _ y u k)) [
+          | inl v ↦ rw v (let c = at_point s L _ 4 refl in omega arith)
+          | inr v ↦ rw v (up (join b L ℓ e₀ st e a q f u) L L _ a)
+        ]))))
+    due_move (refuse b L st e) = ends L _ 3 refl (omega arith) (λ a. absurd (omega arith)) (loose L e)
+        (alone L (omega arith)) (omega arith)
+    due_move {s = s} (settle b L st e a) = calm (set_new s L _ 4 refl (λ _. let q = (g.own d).now L in omega arith))
+        (let q = due_yes N P p (w.at d) d (g.small d) (L, e, λ y k. a y (sym (ap (λ ℓ. on ℓ y) (g.list d L e)) ∙ k)) in
+        let r = due_no N P (p' s) s d (loose_after s L _ 4 refl (omega arith) (alone L (omega arith))) in
+        omega arith)
+    due_move (drop b L y st e a h) = ends L _ 5 refl (omega arith) (λ _. let q = (g.own d).now L in
+        omega arith) (λ (M, x, f). let q = alone L (omega arith) M x in
+        (subst (λ u. HasAccepted (p y u (number w d u))) q (f y (ap (λ ℓ. on ℓ y) (g.list d L e) ∙ a))).1 h)
+        (alone L (omega arith)) (omega arith)
 
-  module _ (s : State) (o : Option Contents) (i j : ℕ) (does : Effect N P w d z ℓ₀ s i j) where
+  module _ {z : Type 0} {ℓ₀ : List Entry} {s : State} {i j : ℕ} (does : Effect N P w d z ℓ₀ s i j) where
     abbrev w' : History
-    w' = next w d s o
+    w' = next w d s none
 
     abbrev q : ℕ → ℕ → ℕ → ℕ
-    q = p' s o i j
+    q = p' s
 
     at_d_now : due N P w' d ≡ due_of N P q s d
     at_d_now = elim (upd_tells w.at d s d) [ inl u ↦ ap (λ t. due_of N P q t d) u.1 | inr u ↦ absurd (u.0 refl) ]
@@ -200,7 +203,7 @@ module _ (N : ℕ) (P : Policy) (w : History) (d : ℕ) (z : Bool) (ℓ₀ : Lis
     -- due to another as before
     unmoved : (x : ℕ) → (x ≡ d → ⊥) → (Firm q (w.at x) → Firm p (w.at x)) → due N P w' x ≡ due N P w x
     unmoved x n f = there x n ∙ due_same N P p q (w.at x) x (g.small x)
-        (λ (L, a, b). (L, a, λ y k. up s o i j does y L _ (b y k))) f
+        (λ (L, a, b). (L, a, λ y k. up does y L _ (b y k))) f
 
     -- the sums, where only d's due has moved
     by_one : ((x : ℕ) → (x ≡ d → ⊥) → due N P w' x ≡ due N P w x) → due_of N P q s d + i ≡ due N P w d + j →
@@ -237,7 +240,7 @@ module _ (N : ℕ) (P : Policy) (w : History) (d : ℕ) (z : Bool) (ℓ₀ : Lis
       stood x refusal_kept (L, a, f) = (
         L,
         a,
-        λ y h. elim (point s o i j M n k e y L (number w x L)) [
+        λ y h. elim (point s M n k e y L (number w x L)) [
           | inl (u, v, m, _) ↦ absurd (refusal_kept (subst (λ z. standing w x z ≡ 2) v a)
               (subst (λ z. number w x z ≡ n) v m) (L, a, f))
           | inr u ↦ rw u at (f y h)
@@ -249,7 +252,7 @@ module _ (N : ℕ) (P : Policy) (w : History) (d : ℕ) (z : Bool) (ℓ₀ : Lis
         joined : (x : ℕ) → (x ≡ d → ⊥) → on ℓ x ≡ true → (standing w x M ≡ 2) × (number w x M ≡ n)
         joined x x≢d h =
             let a : HasAccepted (p x M n) = subst (λ u. HasAccepted (u M n))
-            (else_past N w d g s o (move_of N P w d z ℓ₀ d<N g s i j does) x x≢d) (all x h) in
+            (else_past g (move_of d<N g does) x x≢d) (all x h) in
             let l = led_by x a in
             let not4 : p x M n ≡ 4 → ⊥ = λ f. (let v = g.settled x M n d f (ap (λ u. on u d) (sym l) ∙ me) in
             let y = offered in omega arith) in
@@ -261,7 +264,7 @@ module _ (N : ℕ) (P : Policy) (w : History) (d : ℕ) (z : Bool) (ℓ₀ : Lis
             no5 : ℓ ≡ w.lists M n → (y : ℕ) × (on (w.lists M n) y ≡ true) × (p y M n ≡ 3) → ⊥
             no5 l (y, f, h) =
                 let a = all y (ap (λ u. on u y) l ∙ f) in
-                elim (point s o i j M n k e y M n) [
+                elim (point s M n k e y M n) [
                   | inl (u, _, _, _) ↦ (let v = offered in
                       let r = ap (λ t. p t M n) u in omega arith)
                   | inr u ↦ omega arith
@@ -306,9 +309,9 @@ module _ (N : ℕ) (P : Policy) (w : History) (d : ℕ) (z : Bool) (ℓ₀ : Lis
                 omega arith)
 
     pub balance : sum_to N (due N P w') + i ≡ sum_to N (due N P w) + j
-    balance = go (due_move s o i j does)
+    balance = go (due_move does)
       where
-        go : DueMove s o i j → sum_to N (due N P w') + i ≡ sum_to N (due N P w) + j
+        go : DueMove s i j → sum_to N (due N P w') + i ≡ sum_to N (due N P w) + j
         go (calm n e) = by_one (λ x u. unmoved x u (λ (L, a, f). (L, a, λ y k. n y L _ (f y k)))) e
         go (firms M k ℓ e a b r me mine c i0 j0 aye nobody) =
             elim (cases_Bool (every ℓ (λ y. has_accepted (q y M (number w d M)))))

@@ -36,19 +36,14 @@ use Rattle.protocol.proofs.LawfulLists.{lawful_right}
 use Rattle.protocol.proofs.History.{History, site_of}
 use Rattle.protocol.proofs.History.{standing, number, Idle, BindingList, Strikes, Effect, Vouched, Safe, FromSender}
 use Rattle.protocol.proofs.History.{Vouches, Backed, ended_vouches, ask_ends_nothing}
-use Rattle.protocol.proofs.History.Effect.{keep as did-keep, issue as did-issue, return as did-return, lay as did-lay}
-use Rattle.protocol.proofs.History.Effect.{want as did-want, hear as did-hear, restart as did-restart, lead as did-lead}
-use Rattle.protocol.proofs.History.Effect.{offer as did-offer, gather as did-gather, propose as did-propose}
-use Rattle.protocol.proofs.History.Effect.{accept as did-accept, join as did-join, refuse as did-refuse}
-use Rattle.protocol.proofs.History.Effect.{settle as did-settle, drop as did-drop}
 
 -- i and j: the pieces that the call issues and returns if it is served
-pub record Explained (N : ℕ) (P : Policy) (w : History) (d : ℕ) (z : Bool) (ℓ₀ : List Entry) (i j : ℕ)
+pub record Explained (N : ℕ) (P : Policy) (w : History) (d : ℕ) (z : Type 0) (ℓ₀ : List Entry) (i j : ℕ)
     (r : Outcome) : Type 0 where
   pub effect : Effect N P w d z ℓ₀ (after (w.at d) r) (pieces (served r) i) (pieces (served r) j)
   pub vouched : Vouched d (after (w.at d) r) (sends r)
 
-module _ (N : ℕ) (P : Policy) (w : History) (d : ℕ) (z : Bool) (ℓ₀ : List Entry) (d<N : d < N) (g : Safe N w)
+module _ {N : ℕ} (P : Policy) {w : History} {d : ℕ} (z : Type 0) (ℓ₀ : List Entry) (g : Safe N w)
     (law : Law (site_of N P d) (w.at d)) where
   abbrev a : Site
   a = site_of N P d
@@ -65,7 +60,7 @@ module _ (N : ℕ) (P : Policy) (w : History) (d : ℕ) (z : Bool) (ℓ₀ : Lis
 
   -- a refusal changes nothing, whatever the call was to issue and return
   pub refused_explained : (i j : ℕ) (x : Refusal) → Explained N P w d z ℓ₀ i j (refuses x)
-  refused_explained i j x = record { effect = did-keep s₀.owing none_struck; vouched = tt }
+  refused_explained i j x = record { effect = Effect.keep s₀.owing none_struck; vouched = tt }
 
   denied : {i j : ℕ} {b c : Bool} {x : Refusal} → b ≡ c → Explained N P w d z ℓ₀ i j (refuses x)
   denied _ = refused_explained _ _ _
@@ -108,17 +103,17 @@ module _ (N : ℕ) (P : Policy) (w : History) (d : ℕ) (z : Bool) (ℓ₀ : Lis
     s₁ = owed b s₀
 
     still_explained : Ok (serves s₁ none)
-    still_explained = record { effect = did-keep b st; vouched = tt }
+    still_explained = record { effect = Effect.keep b st; vouched = tt }
 
     -- a letter about a row as it is
     said : (c : Kind) (to L : ℕ) (es : List Entry) →
         Vouches c d L (standing w d L) es (λ ℓ. (standing w d L ≡ 2) × (ℓ ≡ s₀.list)) →
         Ok (serves s₁ (mail a s₁ c to L es))
-    said c to L es t = record { effect = did-keep b st; vouched = mail_vouched s₁ c to L es t }
+    said c to L es t = record { effect = Effect.keep b st; vouched = mail_vouched s₁ c to L es t }
 
     refuse_explained : (L to : ℕ) → standing w d L ≡ 1 →
         Ok (serves (ended L 3 s₁) (mail a (ended L 3 s₁) kinds.No to L []))
-    refuse_explained L to e = vouches_of kinds.No to L _ 3 [] (ended L 3 s₁) refl (did-refuse b L st e) refl
+    refuse_explained L to e = vouches_of kinds.No to L _ 3 [] (ended L 3 s₁) refl (Effect.refuse b L st e) refl
 
     module _ (k : Bool) (L y n : ℕ) (es : List Entry) where
       -- a step is carried out well
@@ -153,7 +148,7 @@ module _ (N : ℕ) (P : Policy) (w : History) (d : ℕ) (z : Bool) (ℓ₀ : Lis
           w.past y L (number w d L) ≡ 4 → Go (steps.Settle c v)
       settle_explained c v h e t =
           vouches_of c _ L _ 4 [] (settled P a L s₀.list s₁) refl
-          (did-settle b L st e (λ x h. g.settled y L _ x t h)) h
+          (Effect.settle b L st e (λ x h. g.settled y L _ x t h)) h
 
       drop_explained : (c : Kind) (v : Whom) →
           Vouches c d L 5 [] (λ ℓ. (◌≡◌ {A = ℕ} 5 2) × (ℓ ≡ [])) → standing w d L ≡ 2 →
@@ -163,8 +158,8 @@ module _ (N : ℕ) (P : Policy) (w : History) (d : ℕ) (z : Bool) (ℓ₀ : Lis
         where
           dropped : (w.past y L (number w d L) ≡ 3) ⊎ (w.past y L (number w d L) ≡ 5) →
               Effect N P w d z ℓ₀ (ended L 5 s₁) 0 0
-          dropped (inl t) = did-drop b L y st e (sym (listed e y) ∙ l) t
-          dropped (inr t) = let q = g.dropped y L _ t in did-drop b L q.0 st e q.1 q.2
+          dropped (inl t) = Effect.drop b L y st e (sym (listed e y) ∙ l) t
+          dropped (inr t) = let q = g.dropped y L _ t in Effect.drop b L q.0 st e q.1 q.2
 
       gather_explained : (xs : List Entry) → L ≡ d → standing w d L ≡ 1 →
           1 ≤ w.past y L (number w d L) → FromSender y xs →
@@ -172,7 +167,7 @@ module _ (N : ℕ) (P : Policy) (w : History) (d : ℕ) (z : Bool) (ℓ₀ : Lis
       gather_explained [] l h t f = elim f [ ]
       gather_explained (e ∷ xs) l h t f =
           record {
-            effect = did-gather b e st (subst (λ u. standing w d u ≡ 1) l h)
+            effect = Effect.gather b e st (subst (λ u. standing w d u ≡ 1) l h)
                 (subst (λ u. 1 ≤ w.past e.depot u (number w d u)) l (rw f t));
             vouched = tt;
           }
@@ -183,16 +178,16 @@ module _ (N : ℕ) (P : Policy) (w : History) (d : ℕ) (z : Bool) (ℓ₀ : Lis
       unfolding concluded
       accept_explained e₀ q c l f =
           by Ok (λ v. vouches_of kinds.Settle _ L _ 4 [] (settled P a L es s₁) refl
-          (did-join b L es e₀ st q c l f v) refl)
+          (Effect.join b L es e₀ st q c l f v) refl)
           (λ v. vouches_of kinds.Yes _ L _ 2 [] (bound L es (pair a L) b s₁) refl
-          (did-accept b L es e₀ st q c l f v) (omega arith))
+          (Effect.accept b L es e₀ st q c l f v) (omega arith))
 
       hear_explained : standing w d L ≡ 2 → HasAccepted (w.past y L (number w d L)) → Go steps.Hear
       unfolding concluded
       hear_explained q t =
           by Ok (λ v. vouches_of kinds.Settle _ L _ 4 [] (settled P a L s₀.list s₁) refl
-          (did-settle b L st q (λ x h. hears_more q t x (every_one _ _ x v (listed q x ∙ h)))) refl)
-          (λ v. record { effect = did-hear b L y st q t v; vouched = tt })
+          (Effect.settle b L st q (λ x h. hears_more q t x (every_one _ _ x v (listed q x ∙ h)))) refl)
+          (λ v. record { effect = Effect.hear b L y st q t v; vouched = tt })
 
       kind_explained : (c : Kind) → ℓ₀ ≡ es → (standing w d L ≡ 0 → ⊥) → CarriedBy y c es →
           Vouches c y L (w.past y L (number w d L)) es (λ ℓ. ℓ ≡ w.lists L (number w d L)) →
@@ -279,7 +274,7 @@ module _ (N : ℕ) (P : Policy) (w : History) (d : ℕ) (z : Bool) (ℓ₀ : Lis
       let lt = ltb-true (number w d m.leader) m.number n in
       subst (λ c. Go' (decided c 0 sit)) (sym k) (subst Go' (sym (by_kind_lem kinds.Ask 0 sit))
       (by Go' (λ _. vouches_of kinds.Offer _ m.leader m.number 1 _ (turned m.leader m.number 1 s₂) refl
-      (did-offer _ m.leader m.number st l (idle_of (other_way _ _ n free)) lt
+      (Effect.offer _ m.leader m.number st l (idle_of (other_way _ _ n free)) lt
       (subst (λ x. 1 ≤ w.past x m.leader m.number) y q)) (omega arith, refl))
       (λ _. by Go' (λ e. absurd (false≢true e))
       (λ _. unlined_explained s₂.owing st (strikes a m) m.leader m.sender m.number m.entries)))))
@@ -317,7 +312,7 @@ module _ (N : ℕ) (P : Policy) (w : History) (d : ℕ) (z : Bool) (ℓ₀ : Lis
   unfolding issue
   issue_explained n =
       by Q denied (λ _. by Q denied
-      (λ f. by Q denied (λ l. record { effect = did-issue n (idle_of f) (ltb-false _ _ l); vouched = tt })))
+      (λ f. by Q denied (λ l. record { effect = Effect.issue n (idle_of f) (ltb-false _ _ l); vouched = tt })))
     where
       Q : Outcome → Type 0
       Q = Explained N P w d z ℓ₀ n 0
@@ -326,8 +321,8 @@ module _ (N : ℕ) (P : Policy) (w : History) (d : ℕ) (z : Bool) (ℓ₀ : Lis
   unfolding give_back
   return_explained n =
       by Q denied (λ _. by Q denied
-      (λ _. by Q (λ _. record { effect = did-lay n; vouched = tt })
-      (λ f. record { effect = did-return n (idle_of f); vouched = tt })))
+      (λ _. by Q (λ _. record { effect = Effect.lay n; vouched = tt })
+      (λ f. record { effect = Effect.return n (idle_of f); vouched = tt })))
     where
       Q : Outcome → Type 0
       Q = Explained N P w d z ℓ₀ 0 n
@@ -335,14 +330,14 @@ module _ (N : ℕ) (P : Policy) (w : History) (d : ℕ) (z : Bool) (ℓ₀ : Lis
   pub wish_explained : (n : ℕ) → Ok (set_wish a s₀ n)
   unfolding set_wish
   wish_explained n = by Ok denied
-      (λ _. by Ok denied (λ f. record { effect = did-want n (idle_of f); vouched = tt }))
+      (λ _. by Ok denied (λ f. record { effect = Effect.want n (idle_of f); vouched = tt }))
 
   pub lead_explained : Ok (lead a s₀)
   unfolding lead
   lead_explained =
       by Ok denied (λ f. by Ok denied
       (λ o. by Ok denied (λ _. by Ok denied (λ _. by Ok denied
-      (λ _. vouches_of kinds.Ask _ d _ 1 [] (led a s₀) refl (did-lead (idle_of f) (eqb-true _ 0 (not-false _ o)))
+      (λ _. vouches_of kinds.Ask _ d _ 1 [] (led a s₀) refl (Effect.lead (idle_of f) (eqb-true _ 0 (not-false _ o)))
       (refl, omega arith))))))
 
   pub propose_explained : ℓ₀ ≡ s₀.gathered → Ok (propose P a s₀)
@@ -353,14 +348,14 @@ module _ (N : ℕ) (P : Policy) (w : History) (d : ℕ) (z : Bool) (ℓ₀ : Lis
       let (h, v) = law.lists.gathering q in
       let n = not_alone d s₀.wish s₀.gathered v (ltb-false _ _ l) in
       vouches_of kinds.List _ d _ 2 s₀.gathered (proposed a s₀) refl
-      (did-propose e₀ q (binding_of a d _ _ _ law.site.size h (two d _ h.me n)) n)
+      (Effect.propose e₀ q (binding_of a d _ _ _ law.site.size h (two d _ h.me n)) n)
       (refl, omega arith, (refl, refl)))))
 
   pub withdraw_explained : (L : ℕ) → Ok (withdraw_in a s₀ L)
   unfolding withdraw_in
   withdraw_explained L =
       by Ok denied (λ e. let q = row_is L 1 (not-false _ e) in
-      by Ok (λ _. vouches_of kinds.Drop _ L _ 3 [] (ended L 3 s₀) refl (did-refuse _ L none_struck q) (inl refl))
+      by Ok (λ _. vouches_of kinds.Drop _ L _ 3 [] (ended L 3 s₀) refl (Effect.refuse _ L none_struck q) (inl refl))
       (λ _. refuse_explained _ none_struck L _ q))
 
   pub query_explained : (L : ℕ) → Ok (query_in a s₀ L)
@@ -368,11 +363,11 @@ module _ (N : ℕ) (P : Policy) (w : History) (d : ℕ) (z : Bool) (ℓ₀ : Lis
   query_explained L = by Ok denied (λ e. let q = row_is L 2 (not-false _ e) in
       said _ none_struck kinds.Query _ L [] (omega arith))
 
-  pub restart_explained : (L : ℕ) → z ≡ true → Ok (restart_in a s₀ L)
+  pub restart_explained : (L : ℕ) → z → Ok (restart_in a s₀ L)
   unfolding restart_in
   restart_explained L k =
-      by Ok (λ e. record { effect = did-refuse _ d none_struck (row_is d 1 e); vouched = tt })
-      (λ _. by Ok (λ e. record { effect = did-restart L k (row_is L 2 e); vouched = tt })
+      by Ok (λ e. record { effect = Effect.refuse _ d none_struck (row_is d 1 e); vouched = tt })
+      (λ _. by Ok (λ e. record { effect = Effect.restart L k (row_is L 2 e); vouched = tt })
       (λ _. still_explained _ none_struck))
 
   pub remind_explained : Ok (remind a s₀)

@@ -1,6 +1,6 @@
 -- A Query that all have answered frees its sender, for good: each answer ended the handover there or was heard, a bound
 -- depot never has all heard, and a row never comes back to a handover.
-use Rattle.std.proofs.Common.{◌≡◌, ℕ, ◌<◌, ◌≤◌, true, false, List, [], sym, refl, ap, ◌∙◌, subst, ap₂, subst₂, inl, inr, arith}
+use Rattle.std.proofs.Common.{◌≡◌, ℕ, ◌<◌, ◌≤◌, true, List, [], sym, refl, ap, ◌∙◌, subst, ap₂, subst₂, inl, inr, arith}
 use mathlib.Core.Option.{Option, none, some}
 use Rattle.std.proofs.lemmas.Bool.{cases_eq, eqb-true, both_ways, not-false}
 use Rattle.entries.specs.declared.lists.Entry.{Entry}
@@ -10,8 +10,8 @@ use Rattle.letters.specs.Contents.{Contents, Lawful}
 use Rattle.letters.specs.Bytes.{encode}
 use Rattle.entries.specs.Sets.{has}
 use Rattle.entries.specs.Lists.{on}
-use Rattle.protocol.specs.Calls.{Call, Hand, Issue, Return, Wish, Lead, Propose, Withdraw, Query, Remind, Restart}
-use Rattle.protocol.specs.Calls.{Receive, list_carried}
+use Rattle.protocol.specs.Calls.{Call, Query, Restart}
+use Rattle.protocol.specs.Calls.{Receive}
 use Rattle.protocol.specs.Keeping.{Readable}
 use Rattle.protocol.specs.Law.{HasAccepted}
 use Rattle.protocol.specs.Opening.{Opening, LawfulOpening}
@@ -26,26 +26,12 @@ use Rattle.protocol.specs.Words.{Arrives, CameBack, Answered, NoRestart, Free}
 use Rattle.protocol.proofs.LawKept.{calls_kept}
 use Rattle.letters.proofs.Forth.{one_form}
 use Rattle.protocol.proofs.Tests.{upd_tells, by, all_every}
-use Rattle.protocol.proofs.History.{past_of, lists_of, history}
+use Rattle.protocol.proofs.History.{past_of, lists_of}
 use Rattle.protocol.proofs.SafeNext.{le_on, acc_on}
 use Rattle.protocol.proofs.Leaders.{on_others}
-use Rattle.protocol.proofs.Invariant.{restarts, Invariant, called_explained}
-use Rattle.protocol.proofs.Invariant.{hand_or, invariant}
-use Rattle.protocol.proofs.Forever.{glue, hand_or_called, grew, same_list}
+use Rattle.protocol.proofs.Invariant.{Invariant, by_call, hand_is, invariant}
+use Rattle.protocol.proofs.Forever.{glue, still_or_handled, grew, same_list}
 use Rattle.protocol.proofs.Replies.{at_n, bound_x, heard_on, Reply, Replies, answer, arrives}
-
-not_restart : (c : Call) → (c ≡ Restart → ⊥) → restarts c ≡ false
-not_restart Hand f = refl
-not_restart (Issue n) f = refl
-not_restart (Return n) f = refl
-not_restart (Wish n) f = refl
-not_restart Lead f = refl
-not_restart Propose f = refl
-not_restart Withdraw f = refl
-not_restart Query f = refl
-not_restart Remind f = refl
-not_restart Restart f = absurd (f refl)
-not_restart (Receive bytes) f = refl
 
 -- what a served Query sends, and of what
 query_is : (a : Site) (s : State) (L : ℕ) (m : Contents) → sends (query_in a s L) ≡ some m → ((s.rows L).standing ≡ 2)
@@ -53,19 +39,19 @@ query_is : (a : Site) (s : State) (L : ℕ) (m : Contents) → sends (query_in a
 unfolding query_in
 query_is a s L m =
     by (λ r. sends r ≡ some m → ((s.rows L).standing ≡ 2) × (mail a s kinds.Query (others a s.list) L [] ≡ some m))
-    (λ _ e. absurd (let z : ◌≡◌ {A = ℕ} 0 1 = cc in omega arith)) (λ e f. (eqb-true _ 2 (not-false _ e), f))
+    (λ _ e. cc) (λ e f. (eqb-true _ 2 (not-false _ e), f))
 
 mail_is : (a : Site) (s : State) (k : Kind) (to L : ℕ) (es : List Entry) (m : Contents) → mail a s k to L es
     ≡ some m → m ≡ note a s k to L es
 unfolding mail
 mail_is a s k to L es m = by (λ r. r ≡ some m → m ≡ note a s k to L es)
-    (λ _ e. absurd (let z : ◌≡◌ {A = ℕ} 0 1 = cc in omega arith)) (λ _ e. cc)
+    (λ _ e. cc) (λ _ e. cc)
 
-module _ (P : Policy) (lawful : LawfulPolicy P) (o : Opening) (ok : LawfulOpening o) where
+module _ {P : Policy} (lawful : LawfulPolicy P) {o : Opening} (ok : LawfulOpening o) where
   -- one call later
   module _ {w : Stage} (σ : Series P o (just_opened o) w) (d : ℕ) (c : Call) (a : Allowed w d c) where
     abbrev h : Invariant σ
-    h = invariant P lawful o ok σ
+    h = invariant lawful ok σ
 
     abbrev t : State
     t = after (w.at d) (outcome P o w d c)
@@ -73,24 +59,21 @@ module _ (P : Policy) (lawful : LawfulPolicy P) (o : Opening) (ok : LawfulOpenin
     heard_next : (x L y : ℕ) → ((w.at x).rows L).standing ≡ 2 → (((called P o w d c).at x).rows L).standing ≡ 2 →
         (d ≡ x → c ≡ Restart → ⊥) → has (w.at x).heard y ≡ true → has ((called P o w d c).at x).heard y ≡ true
     heard_next x L y b e f k =
-        elim (hand_or_called P lawful o ok σ d c a) [
+        elim (still_or_handled lawful ok σ d c a) [
           | inl q ↦ subst (λ u. has (u.at x).heard y ≡ true) (sym q) k
           | inr q ↦ elim (upd_tells w.at d t x) [
             | inl (u, v) ↦ subst (λ z. has z.heard y ≡ true) (sym v)
-                (heard_on o.n P (history σ) d (restarts c) (list_carried (w.at d) c) q.low h.safe
-                (not_restart c (f (sym u))) L (subst (λ z. ((w.at z).rows L).standing ≡ 2) u b) t _ _
+                (heard_on h.safe L (subst (λ z. ((w.at z).rows L).standing ≡ 2) u b) (f (sym u))
                 q.explained.effect (sym (ap (λ z. (z.rows L).standing) v) ∙ e) y
                 (subst (λ z. has (w.at z).heard y ≡ true) u k))
             | inr (u, v) ↦ subst (λ z. has z.heard y ≡ true) (sym v) k
           ]
         ]
 
-    -- what a Receive sends is lawful
-    sent_lawful : (bytes : List ℕ) (r : Contents) → c ≡ Receive bytes → some r ≡ sends (outcome P o w d c) → Lawful r
-    sent_lawful bytes r e f = elim (hand_or P lawful o σ h d c a) [
-      | inl q ↦ absurd (let z : ◌≡◌ {A = ℕ} 0 1 = (let q' : Receive bytes ≡ Hand = sym e ∙ q in cc) in omega arith)
-      | inr (n, _, _) ↦ subst Readable (sym f) (called_explained P lawful o σ h d c a n).kept.mails
-    ]
+    -- what a call sends can be read
+    sent_readable : Readable (sends (outcome P o w d c))
+    sent_readable = by_call lawful h d (λ c _. Readable (sends (outcome P o w d c)))
+        (λ _. subst Readable (sym (hand_is h d).silent) tt) (λ c _ k. k.kept.mails) c a
 
   read : (w : Stage) (d : ℕ) (m : Contents) → Lawful m → outcome P o w d (Receive (encode m))
       ≡ take P (site P o d) (w.at d) m
@@ -105,7 +88,7 @@ module _ (P : Policy) (lawful : LawfulPolicy P) (o : Opening) (ok : LawfulOpenin
     n = ((v.at x).rows L).number
 
     h₀ : Invariant r₀
-    h₀ = invariant P lawful o ok r₀
+    h₀ = invariant lawful ok r₀
 
     x<N : x < o.n
     x<N = h₀.low x a₀
@@ -118,8 +101,7 @@ module _ (P : Policy) (lawful : LawfulPolicy P) (o : Opening) (ok : LawfulOpenin
         (query_is (site P o x) (v.at x) L m f₀).1
 
     m_lawful : Lawful m
-    m_lawful = subst Readable f₀ (called_explained P lawful o r₀ h₀ x Query a₀ (λ e. let z : ◌≡◌ {A = ℕ} 0 1 = cc in
-        omega arith)).kept.mails
+    m_lawful = subst Readable f₀ (sent_readable r₀ x Query a₀)
 
     abbrev v₁ : Stage
     v₁ = called P o v x Query
@@ -132,25 +114,25 @@ module _ (P : Policy) (lawful : LawfulPolicy P) (o : Opening) (ok : LawfulOpenin
     v_bound = (h₀.safe.own x).now L ∙ v_stands
 
     least : {w : Stage} (s : Series P o v₁ w) → 2 ≤ past_of (all s) x L n
-    least start = let b = v_bound in let k = le_on _ _ (grew P lawful o ok r₀ x Query a₀ x L n) in omega arith
-    least (then s d c a) = let b = least s in let k = le_on _ _ (grew P lawful o ok (all s) d c a x L n) in omega arith
+    least start = let b = v_bound in let k = le_on _ _ (grew lawful ok r₀ x Query a₀ x L n) in omega arith
+    least (then s d c a) = let b = least s in let k = le_on _ _ (grew lawful ok (all s) d c a x L n) in omega arith
 
     lists_on : {w : Stage} (s : Series P o v₁ w) → HasAccepted (past_of (all s) L L n)
         × (lists_of (all s) L n ≡ lists_of r₀ L n)
     lists_on start =
         let b : HasAccepted (past_of r₀ L L n) = h₀.safe.led x L n (let q = v_bound in omega arith) in
-        (acc_on _ _ (grew P lawful o ok r₀ x Query a₀ L L n) b, same_list P lawful o ok r₀ x Query a₀ L n b)
+        (acc_on _ _ (grew lawful ok r₀ x Query a₀ L L n) b, same_list lawful ok r₀ x Query a₀ L n b)
     lists_on (then s d c a) = let (b, k) = lists_on s in
-        (acc_on _ _ (grew P lawful o ok (all s) d c a L L n) b, same_list P lawful o ok (all s) d c a L n b ∙ k)
+        (acc_on _ _ (grew lawful ok (all s) d c a L L n) b, same_list lawful ok (all s) d c a L n b ∙ k)
 
     -- bound at the end, bound before
     before : {w : Stage} (s : Series P o v₁ w) (d : ℕ) (c : Call) (a : Allowed w d c) →
         past_of (all (then s d c a)) x L n ≡ 2 → past_of (all s) x L n ≡ 2
-    before s d c a e = let k = grew P lawful o ok (all s) d c a x L n in let b = least s in omega arith
+    before s d c a e = let k = grew lawful ok (all s) d c a x L n in let b = least s in omega arith
 
     bound_at : {w : Stage} (s : Series P o v₁ w) → past_of (all s) x L n ≡ 2 → ((w.at x).rows L).standing ≡ 2
-    bound_at s e = let h = invariant P lawful o ok (all s) in
-        bound_x o.n (history (all s)) h.safe h.leaders x L n e
+    bound_at s e = let h = invariant lawful ok (all s) in
+        bound_x h.safe h.leaders x L n e
 
     module _ (y : ℕ) (y≢x : y ≡ x → ⊥) (on-y : on (v.at x).list y ≡ true) where
       listed : {w : Stage} (s : Series P o v₁ w) → on (lists_of (all s) L n) y ≡ true
@@ -162,25 +144,25 @@ module _ (P : Policy) (lawful : LawfulPolicy P) (o : Opening) (ok : LawfulOpenin
       reply_is start r b k = elim k [ ]
       reply_is (then s d c a) r b (inl k) = reply_is s r (before s d c a b) k
       reply_is (then {w} s d c a) r b (inr (e, f, k)) =
-          let h = invariant P lawful o ok (all s) in
+          let h = invariant lawful ok (all s) in
           let q : r ≡ sends (take P (site P o y) (w.at y) m) =
           k ∙ (ap₂ (λ d c. sends (outcome P o w d c)) e f ∙ ap sends (read w y m m_lawful)) in
           subst (Replies P x L n y) (sym (q ∙ ap (λ u. sends (take P (site P o y) (w.at y) u)) m_is))
-          (answer o.n P x L n y (history (all s)) h.safe h.leaders (before s d c a b) (listed s) x<N y≢x
+          (answer P x L n y h.safe h.leaders (before s d c a b) (listed s) x<N y≢x
           (others (site P o x) (v.at x).list) [] (on_others o.n P x (v.at x).list y on-y y≢x))
 
       reply_lawful : {w : Stage} (s : Series P o v₁ w) (r : Contents) → Arrives m y (some r) s → Lawful r
       reply_lawful start r k = elim k [ ]
       reply_lawful (then s d c a) r (inl k) = reply_lawful s r k
-      reply_lawful (then s d c a) r (inr (e, f, k)) = sent_lawful (all s) d c a (encode m) r f k
+      reply_lawful (then s d c a) r (inr (e, f, k)) = subst Readable (sym k) (sent_readable (all s) d c a)
 
       -- the answer's arrival
       came : {w : Stage} (s : Series P o v₁ w) → past_of (all s) x L n ≡ 2 → (r : Contents) → Lawful r →
           Reply P x L n y r → (((called P o w x (Receive (encode r))).at x).rows L).standing ≡ 2 →
           has ((called P o w x (Receive (encode r))).at x).heard y ≡ true
       came {w} s b r k f =
-          let h = invariant P lawful o ok (all s) in
-          let q = arrives o.n P x L n y (history (all s)) h.safe h.leaders b (listed s) x<N y≢x r f in
+          let h = invariant lawful ok (all s) in
+          let q = arrives P x L n y h.safe h.leaders b (listed s) x<N y≢x r f in
           let u : (called P o w x (Receive (encode r))).at x ≡ after (w.at x) (take P (site P o x) (w.at x) r) =
           at_x w x (after (w.at x) (outcome P o w x (Receive (encode r)))) ∙ ap (after (w.at x)) (read w x r k) in
           subst (λ z. (z.rows L).standing ≡ 2 → has z.heard y ≡ true) (sym u) q
@@ -207,11 +189,11 @@ module _ (P : Policy) (lawful : LawfulPolicy P) (o : Opening) (ok : LawfulOpenin
     unbound : {w : Stage} (s : Series P o v₁ w) → NoRestart x s →
         ((y : ℕ) → on (v.at x).list y ≡ true → (y ≡ x → ⊥) → Answered m y x s) → past_of (all s) x L n ≡ 2 → ⊥
     unbound {w} s sp all_back b =
-        let h = invariant P lawful o ok (all s) in
+        let h = invariant lawful ok (all s) in
         let e = bound_at s b in
         let held = h.safe.held x L e in
         let same : (w.at x).list ≡ (v.at x).list =
-        h.safe.list x L e ∙ (ap (lists_of (all s) L) (at_n o.n (history (all s)) h.safe h.leaders x L n b)
+        h.safe.list x L e ∙ (ap (lists_of (all s) L) (at_n h.safe h.leaders x L n b)
         ∙ ((lists_on s).1 ∙ sym (h₀.safe.list x L v_stands))) in
         both_ways _ held.waits
         (all_every _ (has (w.at x).heard)
@@ -230,14 +212,14 @@ module _ (P : Policy) (lawful : LawfulPolicy P) (o : Opening) (ok : LawfulOpenin
         ((y : ℕ) → on (v.at x).list y ≡ true → (y ≡ x → ⊥) → Answered m y x s) → (u : Stage) →
         Series P o w u → Free u x L n
     free s sp all_back u s' b =
-        let h = invariant P lawful o ok (all (glue s s')) in
+        let h = invariant lawful ok (all (glue s s')) in
         ever s s' (unbound s sp all_back)
         (ap (past_of (all (glue s s')) x L) (sym b.number) ∙ ((h.safe.own x).now L ∙ b.accepted))
 
   -- the row in which it is bound is the one that Query finds
   pub way_out : {w : Stage} → Series P o (just_opened o) w → WayOut P o w
   way_out {w = v} r x L n m b a f w s sp all_back u s' c =
-      let h = invariant P lawful o ok r in
+      let h = invariant lawful ok r in
       let e = b.accepted in
       let q : leader (site P o x) (v.at x) ≡ L = (calls_kept P lawful (site P o x) (v.at x)
       (h.law x (h.low x a))).found L (omega arith) in

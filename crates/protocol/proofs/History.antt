@@ -79,8 +79,8 @@ pub record BindingList (N d shelf : ℕ) (ℓ : List Entry) : Type 0 where
 abbrev pub Strikes : History → ℕ → ℕ → Type 0
 Strikes w d b = (y : ℕ) → has (w.at d).owing y ≡ true → (has b y ≡ true) ⊎ (3 ≤ w.past y d (number w d d))
 
--- z: whether the call is a Restart; ℓ₀: the list that it lays before the depot
-pub data Effect (N : ℕ) (P : Policy) (w : History) (d : ℕ) (z : Bool) (ℓ₀ : List Entry) : State → ℕ → ℕ → Type 0 where
+-- z: that the call is a Restart; ℓ₀: the list that it lays before the depot
+pub data Effect (N : ℕ) (P : Policy) (w : History) (d : ℕ) (z : Type 0) (ℓ₀ : List Entry) : State → ℕ → ℕ → Type 0 where
   keep : (b : ℕ) → Strikes w d b → Effect N P w d z ℓ₀ (owed b (w.at d)) 0 0
   issue : (n : ℕ) → Idle w d → n ≤ (w.at d).shelf →
       Effect N P w d z ℓ₀ (stocked ((w.at d).shelf - n) (w.at d).tray (w.at d).wish (w.at d)) n 0
@@ -91,7 +91,7 @@ pub data Effect (N : ℕ) (P : Policy) (w : History) (d : ℕ) (z : Bool) (ℓ�
   hear : (b : ℕ) (L y : ℕ) → Strikes w d b → standing w d L ≡ 2 → HasAccepted (w.past y L (number w d L)) →
       every (w.at d).list (has (add (w.at d).heard y)) ≡ false →
       Effect N P w d z ℓ₀ (hears (add (w.at d).heard y) (owed b (w.at d))) 0 0
-  restart : (L : ℕ) → z ≡ true → standing w d L ≡ 2 → Effect N P w d z ℓ₀ (hears (pair (site_of N P d) L) (w.at d)) 0 0
+  restart : (L : ℕ) → z → standing w d L ≡ 2 → Effect N P w d z ℓ₀ (hears (pair (site_of N P d) L) (w.at d)) 0 0
   lead : Idle w d → (w.at d).owing ≡ 0 →
       Effect N P w d z ℓ₀ (gathers (own (site_of N P d) (w.at d) ∷ []) (turned d (number w d d + 1) 1 (w.at d))) 0 0
   offer : (b L n : ℕ) → Strikes w d b → L < N → Idle w d → number w d L < n → 1 ≤ w.past L L n →

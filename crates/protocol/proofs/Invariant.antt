@@ -1,6 +1,6 @@
 -- What holds after every series, by going through its calls: the history is safe, every record is lawful, and so is
 -- every letter sent.
-use Rattle.std.proofs.Common.{◌≡◌, ℕ, zero, suc, ◌<◌, ◌≤◌, Bool, true, false, eqb, ◌⊎◌, List, [], sym, refl, ap, ◌∙◌, subst, ap₂, inl, inr, arith}
+use Rattle.std.proofs.Common.{◌≡◌, ℕ, zero, suc, ◌<◌, ◌≤◌, true, false, eqb, List, sym, refl, ap, ◌∙◌, subst, ap₂, inl, inr, arith}
 use mathlib.Core.Path.{fun_ext}
 use mathlib.Core.Option.{Option, none, some}
 use Rattle.std.proofs.lemmas.Bool.Decides.{nat_tests}
@@ -10,14 +10,14 @@ use Rattle.letters.specs.Contents.{Contents, Lawful}
 use Rattle.letters.specs.Reading.{letter, reads}
 use Rattle.protocol.specs.Calls.{Call, Hand, Issue, Return, Wish, Lead, Propose, Withdraw, Query, Remind, Restart}
 use Rattle.protocol.specs.Calls.{Receive, entries_read, list_carried, issues, returns, hands}
-use Rattle.protocol.specs.Keeping.{Keeps, Readable}
+use Rattle.protocol.specs.Keeping.{Keeps, CallsKeep, Readable}
 use Rattle.protocol.specs.Law.{Law}
 use Rattle.protocol.specs.Opening.{Opening, LawfulOpening, sum_to}
 use Rattle.protocol.specs.Outcome.{Outcome, after, sends, served}
 use Rattle.protocol.specs.Policy.{Policy, LawfulPolicy}
 use Rattle.protocol.specs.Series.{Stage, just_opened, site, outcome, Among, Given, Allowed, Series, posted, called}
 use Rattle.protocol.specs.Series.{start, then}
-use Rattle.protocol.specs.State.{upd, Site, State, fresh, leader}
+use Rattle.protocol.specs.State.{upd, Site, State, fresh}
 use Rattle.protocol.specs.Taking.{taken}
 use Rattle.letters.proofs.Forth.{one_form}
 use Rattle.protocol.proofs.Tests.{upd_tells, by}
@@ -25,29 +25,15 @@ use Rattle.protocol.proofs.History.{History, next, history, Safe, LeadersKnow}
 use Rattle.protocol.proofs.Explained.{Explained, refused_explained, take_explained, issue_explained, return_explained}
 use Rattle.protocol.proofs.Explained.{wish_explained, lead_explained, propose_explained, withdraw_explained}
 use Rattle.protocol.proofs.Explained.{query_explained, restart_explained, remind_explained}
-use Rattle.protocol.proofs.CallsKeep.{refusal_kept, take_kept, issue_kept, return_kept, wish_kept, lead_kept}
-use Rattle.protocol.proofs.CallsKeep.{propose_kept, withdraw_kept, query_kept, restart_kept, remind_kept}
-use Rattle.protocol.proofs.LawKept.{fresh_lawful}
+use Rattle.protocol.proofs.CallsKeep.{refusal_kept}
+use Rattle.protocol.proofs.LawKept.{fresh_lawful, calls_kept}
 use Rattle.protocol.proofs.RowMoves.{move_of}
 use Rattle.protocol.proofs.SafeNext.{safe_next}
 use Rattle.protocol.proofs.Leaders.{leaders_next}
 
-abbrev pub restarts : Call → Bool
-restarts Hand = false
-restarts (Issue n) = false
-restarts (Return n) = false
-restarts (Wish n) = false
-restarts Lead = false
-restarts Propose = false
-restarts Withdraw = false
-restarts Query = false
-restarts Remind = false
-restarts Restart = true
-restarts (Receive bytes) = false
-
 -- a call that leaves a record as it was leaves the history as it was
-pub same_next : (N : ℕ) (w : History) → Safe N w → (d : ℕ) → next w d (w.at d) none ≡ w
-same_next N w g d = ap (λ u. mk u (next w d (w.at d) none).past (next w d (w.at d) none).lists) e1
+same_next : {N : ℕ} {w : History} → Safe N w → (d : ℕ) → next w d (w.at d) none ≡ w
+same_next {w = w} g d = ap (λ u. mk u (next w d (w.at d) none).past (next w d (w.at d) none).lists) e1
     ∙ (ap (λ u. mk w.at u (next w d (w.at d) none).lists) e2 ∙ ap (λ u. mk w.at w.past u) e3)
   where
     mk : (ℕ → State) → (ℕ → ℕ → ℕ → ℕ) → (ℕ → ℕ → List Entry) → History
@@ -77,116 +63,62 @@ pub record Handed (o : Opening) (w : Stage) (d : ℕ) (r : Outcome) : Type 0 whe
   pub silent : sends r ≡ none
   pub low : served r ≡ true → d < o.n
 
-pub handed_is : (P : Policy) (o : Opening) (w : Stage) (d : ℕ) → (w.handed d ≡ false → w.at d ≡ fresh (o.shares d)) →
-    Handed o w d (outcome P o w d Hand)
-handed_is P o w d f =
-    by (Handed o w d) (λ _. record { same = refl; silent = refl; low = λ e. absurd (false≢true e) })
-    (λ l. by (Handed o w d) (λ _. record { same = refl; silent = refl; low = λ e. absurd (false≢true e) })
-    (λ h. record { same = sym (f h); silent = refl; low = λ _. ltb-true d o.n (not-false _ l) }))
+-- a call at a depot that has its record
+pub record Handled {P : Policy} {o : Opening} {w : Stage} (s : Series P o (just_opened o) w) (d : ℕ) (c : Call) :
+    Type 0 where
+  pub handed : w.handed d ≡ true
+  pub other : hands c ≡ false
+  pub low : d < o.n
+  pub explained : Explained o.n P (history s) d (c ≡ Restart) (list_carried (w.at d) c) (issues c) (returns c)
+      (outcome P o w d c)
+  pub kept : Keeps (site P o d) (w.at d) (outcome P o w d c)
 
-module _ (P : Policy) (lawful : LawfulPolicy P) (o : Opening) {w : Stage} (s : Series P o (just_opened o) w)
+module _ {P : Policy} (lawful : LawfulPolicy P) {o : Opening} {w : Stage} {s : Series P o (just_opened o) w}
     (h : Invariant s) (d : ℕ) where
   abbrev a : Site
   a = site P o d
 
-  -- a call at a depot that has its record
-  pub record Handled (c : Call) : Type 0 where
-    pub low : d < o.n
-    pub explained : Explained o.n P (history s) d (restarts c) (list_carried (w.at d) c) (issues c)
-        (returns c) (outcome P o w d c)
-    pub kept : Keeps a (w.at d) (outcome P o w d c)
+  handled : {c : Call} → hands c ≡ false → w.handed d ≡ true →
+      (Law a (w.at d) → Explained o.n P (history s) d (c ≡ Restart) (list_carried (w.at d) c) (issues c) (returns c)
+      (outcome P o w d c)) →
+      (CallsKeep P a (w.at d) → Keeps a (w.at d) (outcome P o w d c)) → Handled s d c
+  handled f e x k =
+      let l = h.law d (h.low d e) in
+      record {
+        handed = e;
+        other = f;
+        low = h.low d e;
+        explained = x l;
+        kept = k (calls_kept P lawful a (w.at d) l);
+      }
 
-  module _ (e : w.handed d ≡ true) where
-    low_d : d < o.n
-    low_d = h.low d e
+  read_handled : (bytes : List ℕ) → w.handed d ≡ true → Given w bytes → Handled s d (Receive bytes)
+  read_handled bytes e (inl (m, k, q)) =
+      let r : reads bytes ≡ letter m = ap reads q ∙ one_form.read_back m (h.sent m k) in
+      handled refl e
+      (λ l. subst (λ x. Explained o.n P (history s) d (Receive bytes ≡ Restart) (entries_read x) 0 0
+      (taken P a (w.at d) x)) (sym r) (take_explained P _ _ h.safe l m refl (h.sent m k) (h.safe.letter m k)))
+      (λ c. subst (λ x. Keeps a (w.at d) (taken P a (w.at d) x)) (sym r) (c.take m (h.sent m k)))
+  read_handled bytes e (inr (n, q)) =
+      handled refl e
+      (λ l. subst (λ x. Explained o.n P (history s) d (Receive bytes ≡ Restart) (entries_read x) 0 0
+      (taken P a (w.at d) x)) (sym q) (refused_explained P _ _ h.safe l 0 0 n))
+      (λ c. subst (λ x. Keeps a (w.at d) (taken P a (w.at d) x)) (sym q) (refusal_kept a (w.at d) (h.law d (h.low d e)) n))
 
-    law_d : Law a (w.at d)
-    law_d = h.law d low_d
-
-    read_called : (bytes : List ℕ) → Given w bytes → Handled (Receive bytes)
-    read_called bytes (inl (m, k, q)) =
-        let r : reads bytes ≡ letter m = ap reads q ∙ one_form.read_back m (h.sent m k) in
-        record {
-          low = low_d;
-          explained = subst (λ x. Explained o.n P (history s) d false (entries_read x) 0 0
-              (taken P a (w.at d) x)) (sym r)
-              (take_explained o.n P (history s) d false m.entries low_d h.safe law_d m refl
-              (h.sent m k) (h.safe.letter m k));
-          kept = subst (λ x. Keeps a (w.at d) (taken P a (w.at d) x)) (sym r)
-              (take_kept P lawful a (w.at d) law_d m (h.sent m k));
-        }
-    read_called bytes (inr (n, q)) =
-        record {
-          low = low_d;
-          explained = subst (λ x. Explained o.n P (history s) d false (entries_read x) 0 0
-              (taken P a (w.at d) x)) (sym q)
-              (refused_explained o.n P (history s) d false [] low_d h.safe law_d 0 0 n);
-          kept = subst (λ x. Keeps a (w.at d) (taken P a (w.at d) x)) (sym q) (refusal_kept a (w.at d) law_d n);
-        }
-
-  abbrev L₀ : ℕ
-  L₀ = leader a (w.at d)
-
-  pub called_explained : (c : Call) → Allowed w d c → (c ≡ Hand → ⊥) → Handled c
-  called_explained Hand t n = absurd (n refl)
-  called_explained (Issue n) t _ =
-      record {
-        low = low_d t;
-        explained = issue_explained o.n P (history s) d false [] (low_d t) h.safe
-            (law_d t) n;
-        kept = issue_kept P lawful a (w.at d) (law_d t) n;
-      }
-  called_explained (Return n) t _ =
-      record {
-        low = low_d t;
-        explained = return_explained o.n P (history s) d false [] (low_d t) h.safe
-            (law_d t) n;
-        kept = return_kept P lawful a (w.at d) (law_d t) n;
-      }
-  called_explained (Wish n) t _ =
-      record {
-        low = low_d t;
-        explained = wish_explained o.n P (history s) d false [] (low_d t) h.safe
-            (law_d t) n;
-        kept = wish_kept P lawful a (w.at d) (law_d t) n;
-      }
-  called_explained Lead t _ = record {
-    low = low_d t;
-    explained = lead_explained o.n P (history s) d false [] (low_d t) h.safe (law_d t);
-    kept = lead_kept P lawful a (w.at d) (law_d t);
-  }
-  called_explained Propose t _ =
-      record {
-        low = low_d t;
-        explained = propose_explained o.n P (history s) d false (w.at d).gathered (low_d t)
-            h.safe (law_d t) refl;
-        kept = propose_kept P lawful a (w.at d) (law_d t);
-      }
-  called_explained Withdraw t _ =
-      record {
-        low = low_d t;
-        explained = withdraw_explained o.n P (history s) d false [] (low_d t) h.safe
-            (law_d t) L₀;
-        kept = withdraw_kept P lawful a (w.at d) (law_d t) L₀;
-      }
-  called_explained Query t _ = record {
-    low = low_d t;
-    explained = query_explained o.n P (history s) d false [] (low_d t) h.safe (law_d t) L₀;
-    kept = query_kept P lawful a (w.at d) (law_d t) L₀;
-  }
-  called_explained Remind t _ = record {
-    low = low_d t;
-    explained = remind_explained o.n P (history s) d false [] (low_d t) h.safe (law_d t);
-    kept = remind_kept P lawful a (w.at d) (law_d t);
-  }
-  called_explained Restart t _ =
-      record {
-        low = low_d t;
-        explained = restart_explained o.n P (history s) d true [] (low_d t) h.safe
-            (law_d t) L₀ refl;
-        kept = restart_kept P lawful a (w.at d) (law_d t) L₀;
-      }
-  called_explained (Receive bytes) t _ = read_called t.0 bytes t.1
+  -- what is so after a Hand, and after a call at a depot that has its record, is so after every call
+  pub by_call : (Q : (c : Call) → Allowed w d c → Type 0) → ((t : Allowed w d Hand) → Q Hand t) →
+      ((c : Call) (t : Allowed w d c) → Handled s d c → Q c t) → (c : Call) (t : Allowed w d c) → Q c t
+  by_call Q x y Hand t = x t
+  by_call Q x y (Issue n) t = y _ t (handled refl t (λ l. issue_explained P _ _ h.safe l n) (λ k. k.issue n))
+  by_call Q x y (Return n) t = y _ t (handled refl t (λ l. return_explained P _ _ h.safe l n) (λ k. k.give_back n))
+  by_call Q x y (Wish n) t = y _ t (handled refl t (λ l. wish_explained P _ _ h.safe l n) (λ k. k.set_wish n))
+  by_call Q x y Lead t = y _ t (handled refl t (λ l. lead_explained P _ _ h.safe l) (λ k. k.lead))
+  by_call Q x y Propose t = y _ t (handled refl t (λ l. propose_explained P _ _ h.safe l refl) (λ k. k.propose))
+  by_call Q x y Withdraw t = y _ t (handled refl t (λ l. withdraw_explained P _ _ h.safe l _) (λ k. k.withdraw))
+  by_call Q x y Query t = y _ t (handled refl t (λ l. query_explained P _ _ h.safe l _) (λ k. k.query))
+  by_call Q x y Remind t = y _ t (handled refl t (λ l. remind_explained P _ _ h.safe l) (λ k. k.remind))
+  by_call Q x y Restart t = y _ t (handled refl t (λ l. restart_explained P _ _ h.safe l _ refl) (λ k. k.restart))
+  by_call Q x y (Receive bytes) t = y _ t (read_handled bytes t.0 t.1)
 
 mailed : (o : Option Contents) (ms : List Contents) → Readable o → ((m : Contents) → Among m ms → Lawful m) →
     (m : Contents) → Among m (posted o ms) → Lawful m
@@ -209,118 +141,95 @@ fresh_law P lawful o ok x l = fresh_lawful (site P o x) (o.shares x)
     (record { depot = l; size = ok.few; code_low = lawful.coded.0; code_high = lawful.coded.1 })
     (let p = part o.n x o.shares l in let q = ok.limit in omega arith)
 
-module _ (P : Policy) (lawful : LawfulPolicy P) (o : Opening) where
-  invariant_start : LawfulOpening o → Invariant {P = P} {o = o} start
-  invariant_start ok =
+invariant_start : {P : Policy} → LawfulPolicy P → {o : Opening} → LawfulOpening o → Invariant {P = P} {o = o} start
+invariant_start {P} lawful {o} ok =
+    record {
+      safe = record {
+        own = λ x. record { now = λ L. refl; later = λ L n _. refl; live = λ L n a. absurd (omega arith) };
+        single = λ x L M a _. absurd (omega arith);
+        small = λ x L a. absurd (omega arith);
+        most = λ x L n. omega arith;
+        asked = λ x L n a. absurd (omega arith);
+        led = λ x L n a. absurd (omega arith);
+        list = λ x L a. absurd (omega arith);
+        heard = λ x L y a _. absurd (omega arith);
+        held = λ x L a. absurd (omega arith);
+        listed = λ x L n a. absurd (omega arith);
+        settled = λ x L n y a _. absurd (omega arith);
+        dropped = λ x L n a. absurd (omega arith);
+        letter = λ m h. elim h [ ];
+      };
+      leaders = record {
+        rowed = λ x L. inl refl;
+        gathered = λ x y a _. absurd (omega arith);
+        offered = λ L n y a _. absurd (omega arith);
+        owing = λ L y a _. absurd (omega arith);
+        over = λ L n y a _ _. absurd (omega arith);
+      };
+      law = fresh_law P lawful o ok;
+      sent = λ m h. elim h [ ];
+      unhanded = λ x _. refl;
+      low = λ x e. absurd (false≢true e);
+    }
+
+module _ {P : Policy} {o : Opening} {w : Stage} {s : Series P o (just_opened o) w} (h : Invariant s) (d : ℕ) where
+  pub hand_is : Handed o w d (outcome P o w d Hand)
+  hand_is =
+      by (Handed o w d) (λ _. record { same = refl; silent = refl; low = λ e. absurd (false≢true e) })
+      (λ l. by (Handed o w d) (λ _. record { same = refl; silent = refl; low = λ e. absurd (false≢true e) })
+      (λ f. record { same = sym (h.unhanded d f); silent = refl; low = λ _. ltb-true d o.n (not-false _ l) }))
+
+  -- Hand changes no record that a history speaks of
+  pub hand_history : (t : Allowed w d Hand) → history (then s d Hand t) ≡ history s
+  hand_history t = ap₂ (λ u v. next (history s) d u v) hand_is.same hand_is.silent ∙ same_next h.safe d
+
+  hand_invariant : (t : Allowed w d Hand) → Invariant (then s d Hand t)
+  hand_invariant t =
       record {
-        safe = record {
-          own = λ x. record { now = λ L. refl; later = λ L n _. refl; live = λ L n a. absurd (omega arith) };
-          single = λ x L M a _. absurd (omega arith);
-          small = λ x L a. absurd (omega arith);
-          most = λ x L n. omega arith;
-          asked = λ x L n a. absurd (omega arith);
-          led = λ x L n a. absurd (omega arith);
-          list = λ x L a. absurd (omega arith);
-          heard = λ x L y a _. absurd (omega arith);
-          held = λ x L a. absurd (omega arith);
-          listed = λ x L n a. absurd (omega arith);
-          settled = λ x L n y a _. absurd (omega arith);
-          dropped = λ x L n a. absurd (omega arith);
-          letter = λ m h. elim h [ ];
-        };
-        leaders = record {
-          rowed = λ x L. inl refl;
-          gathered = λ x y a _. absurd (omega arith);
-          offered = λ L n y a _. absurd (omega arith);
-          owing = λ L y a _. absurd (omega arith);
-          over = λ L n y a _ _. absurd (omega arith);
-        };
-        law = fresh_law P lawful o ok;
-        sent = λ m h. elim h [ ];
-        unhanded = λ x _. refl;
-        low = λ x e. absurd (false≢true e);
+        safe = subst (Safe o.n) (sym (hand_history t)) h.safe;
+        leaders = subst (LeadersKnow o.n) (sym (hand_history t)) h.leaders;
+        law = λ x l. subst (Law (site P o x)) (sym (at x)) (h.law x l);
+        sent = λ m k. h.sent m (subst (λ u. Among m (posted u w.sent)) hand_is.silent k);
+        unhanded = λ x e. at x ∙ h.unhanded x (or_parts (w.handed x) _ e).0;
+        low = λ x e. elim (or_cases (w.handed x) _ e) [
+          | inl q ↦ h.low x q
+          | inr q ↦ (let (p, r) = and_parts (served (outcome P o w d Hand)) (eqb x d) q in
+              subst (λ z. z < o.n) (sym (eqb-true x d r)) (hand_is.low p))
+        ];
       }
+    where
+      at : (x : ℕ) → (called P o w d Hand).at x ≡ w.at x
+      at x = elim (upd_tells w.at d (after (w.at d) (outcome P o w d Hand)) x)
+          [ inl u ↦ u.1 ∙ (hand_is.same ∙ ap w.at (sym u.0)) | inr u ↦ u.1 ]
 
-  module _ {w : Stage} (s : Series P o (just_opened o) w) (h : Invariant s) (d : ℕ) where
-    pub hand_is : Handed o w d (outcome P o w d Hand)
-    hand_is = handed_is P o w d (h.unhanded d)
+  handled_invariant : (c : Call) (t : Allowed w d c) → Handled s d c → Invariant (then s d c t)
+  handled_invariant c t k =
+      record {
+        safe = safe_next h.safe (move_of k.low h.safe k.explained.effect) (sends r) k.explained.vouched;
+        leaders = leaders_next k.low h.safe h.leaders k.explained.effect (sends r);
+        law = λ x l. elim (upd_tells w.at d (after (w.at d) r) x) [
+          | inl u ↦ subst (Law (site P o x)) (sym u.1)
+              (subst (λ z. Law (site P o z) (after (w.at d) r)) (sym u.0) k.kept.law)
+          | inr u ↦ subst (Law (site P o x)) (sym u.1) (h.law x l)
+        ];
+        sent = mailed (sends r) w.sent k.kept.mails h.sent;
+        unhanded = λ x q. let z = (or_parts (w.handed x) _ q).0 in
+            elim (upd_tells w.at d (after (w.at d) r) x) [
+              | inl u ↦ absurd (both_ways _ (subst (λ y. w.handed y ≡ false) u.0 z) k.handed)
+              | inr u ↦ u.1 ∙ h.unhanded x z
+            ];
+        low = λ x q. elim (or_cases (w.handed x) _ q) [
+          | inl z ↦ h.low x z
+          | inr z ↦ absurd (both_ways _ k.other (and_parts (hands c) _ z).0)
+        ];
+      }
+    where
+      r : Outcome
+      r = outcome P o w d c
 
-    -- Hand changes no record that a history speaks of
-    pub hand_history : (t : Allowed w d Hand) → history (then s d Hand t) ≡ history s
-    hand_history t = ap₂ (λ u v. next (history s) d u v) hand_is.same hand_is.silent
-        ∙ same_next o.n (history s) h.safe d
-
-    pub hand_invariant : (t : Allowed w d Hand) → Invariant (then s d Hand t)
-    hand_invariant t =
-        record {
-          safe = subst (Safe o.n) (sym (hand_history t)) h.safe;
-          leaders = subst (LeadersKnow o.n) (sym (hand_history t)) h.leaders;
-          law = λ x l. subst (Law (site P o x)) (sym (at x)) (h.law x l);
-          sent = λ m k. h.sent m (subst (λ u. Among m (posted u w.sent)) hand_is.silent k);
-          unhanded = λ x e. at x ∙ h.unhanded x (or_parts (w.handed x) _ e).0;
-          low = λ x e. elim (or_cases (w.handed x) _ e) [
-            | inl q ↦ h.low x q
-            | inr q ↦ (let (p, r) = and_parts (served (outcome P o w d Hand)) (eqb x d) q in
-                subst (λ z. z < o.n) (sym (eqb-true x d r)) (hand_is.low p))
-          ];
-        }
-      where
-        at : (x : ℕ) → (called P o w d Hand).at x ≡ w.at x
-        at x = elim (upd_tells w.at d (after (w.at d) (outcome P o w d Hand)) x)
-            [ inl u ↦ u.1 ∙ (hand_is.same ∙ ap w.at (sym u.0)) | inr u ↦ u.1 ]
-
-    pub other_invariant : (c : Call) (t : Allowed w d c) → hands c ≡ false → w.handed d ≡ true →
-        Handled P lawful o s h d c → Invariant (then s d c t)
-    other_invariant c t off e k =
-        record {
-          safe = safe_next o.n (history s) d h.safe _ (sends r)
-              (move_of o.n P (history s) d (restarts c) (list_carried (w.at d) c) k.low h.safe _ _ _
-              k.explained.effect) k.explained.vouched;
-          leaders = leaders_next o.n P (history s) d (restarts c) (list_carried (w.at d) c) k.low
-              h.safe h.leaders _
-              (sends r) _ _ k.explained.effect;
-          law = λ x l. elim (upd_tells w.at d (after (w.at d) r) x) [
-            | inl u ↦ subst (Law (site P o x)) (sym u.1)
-                (subst (λ z. Law (site P o z) (after (w.at d) r)) (sym u.0) k.kept.law)
-            | inr u ↦ subst (Law (site P o x)) (sym u.1) (h.law x l)
-          ];
-          sent = mailed (sends r) w.sent k.kept.mails h.sent;
-          unhanded = λ x q. let z = (or_parts (w.handed x) _ q).0 in
-              elim (upd_tells w.at d (after (w.at d) r) x) [
-                | inl u ↦ absurd (both_ways _ (subst (λ y. w.handed y ≡ false) u.0 z) e)
-                | inr u ↦ u.1 ∙ h.unhanded x z
-              ];
-          low = λ x q. elim (or_cases (w.handed x) _ q) [
-            | inl z ↦ h.low x z
-            | inr z ↦ absurd (both_ways _ off (and_parts (hands c) _ z).0)
-          ];
-        }
-      where
-        r : Outcome
-        r = outcome P o w d c
-
-    pub hand_or : (c : Call) → Allowed w d c → (c ≡ Hand) ⊎ ((c ≡ Hand → ⊥) × (hands c ≡ false) × (w.handed d ≡ true))
-    hand_or Hand t = inl refl
-    hand_or (Issue n) t = inr ((λ e. let z : ◌≡◌ {A = ℕ} 0 1 = cc in omega arith), refl, t)
-    hand_or (Return n) t = inr ((λ e. let z : ◌≡◌ {A = ℕ} 0 1 = cc in omega arith), refl, t)
-    hand_or (Wish n) t = inr ((λ e. let z : ◌≡◌ {A = ℕ} 0 1 = cc in omega arith), refl, t)
-    hand_or Lead t = inr ((λ e. let z : ◌≡◌ {A = ℕ} 0 1 = cc in omega arith), refl, t)
-    hand_or Propose t = inr ((λ e. let z : ◌≡◌ {A = ℕ} 0 1 = cc in omega arith), refl, t)
-    hand_or Withdraw t = inr ((λ e. let z : ◌≡◌ {A = ℕ} 0 1 = cc in omega arith), refl, t)
-    hand_or Query t = inr ((λ e. let z : ◌≡◌ {A = ℕ} 0 1 = cc in omega arith), refl, t)
-    hand_or Remind t = inr ((λ e. let z : ◌≡◌ {A = ℕ} 0 1 = cc in omega arith), refl, t)
-    hand_or Restart t = inr ((λ e. let z : ◌≡◌ {A = ℕ} 0 1 = cc in omega arith), refl, t)
-    hand_or (Receive bytes) t = inr ((λ e. let z : ◌≡◌ {A = ℕ} 0 1 = cc in omega arith), refl, t.0)
-
-    invariant_next : (c : Call) (t : Allowed w d c) → Invariant (then s d c t)
-    invariant_next c t = elim (hand_or c t) [
-      | inl e ↦ at_hand c t e
-      | inr (n, off, e) ↦ other_invariant c t off e (called_explained P lawful o s h d c t n)
-    ]
-      where
-        at_hand : (c : Call) (t : Allowed w d c) → c ≡ Hand → Invariant (then s d c t)
-        at_hand c t e = subst (λ z. (t : Allowed w d z) → Invariant (then s d z t)) (sym e) hand_invariant t
-
-  pub invariant : LawfulOpening o → {w : Stage} (s : Series P o (just_opened o) w) → Invariant s
-  invariant ok start = invariant_start ok
-  invariant ok (then s d c t) = invariant_next s (invariant ok s) d c t
+module _ {P : Policy} (lawful : LawfulPolicy P) {o : Opening} (ok : LawfulOpening o) where
+  pub invariant : {w : Stage} (s : Series P o (just_opened o) w) → Invariant s
+  invariant start = invariant_start lawful ok
+  invariant (then {w} s d c t) =
+      let h = invariant s in
+      by_call lawful h d (λ c t. Invariant (then s d c t)) (hand_invariant h d) (handled_invariant h d) c t

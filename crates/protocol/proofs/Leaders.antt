@@ -2,7 +2,7 @@
 -- depot on its last list has ended.
 use Rattle.std.proofs.Common.{◌≡◌, ℕ, ◌<◌, ◌≤◌, Bool, true, false, cond, ◌||◌, eqb, ltb, ◌⊎◌, List, [], ◌∷◌, sym, refl, ap, ◌∙◌, subst, inl, inr, arith}
 use mathlib.Core.Logic.{⊎_map}
-use mathlib.Core.Option.{Option}
+use mathlib.Core.Option.{Option, none}
 use Rattle.std.proofs.lemmas.Bool.Decides.{nat_tests}
 use Rattle.std.proofs.lemmas.Bool.{cases_eq, eqb-true, or_cases, or_left, or_right, false≢true}
 use Rattle.entries.specs.declared.lists.Entry.{Entry}
@@ -57,18 +57,18 @@ on_none : (y : ℕ) → on [] y ≡ true → ⊥
 unfolding on
 on_none y h = false≢true h
 
-module _ (N : ℕ) (P : Policy) (w : History) (d : ℕ) (z : Bool) (ℓ₀ : List Entry) (d<N : d < N) (g : Safe N w)
+module _ {N : ℕ} {w : History} {d : ℕ} (d<N : d < N) (g : Safe N w)
     (l : LeadersKnow N w) where
-  kept : (s : State) → s.rows d ≡ (w.at d).rows d → s.gathered ≡ (w.at d).gathered →
+  kept : {s : State} → s.rows d ≡ (w.at d).rows d → s.gathered ≡ (w.at d).gathered →
       Strikes w d s.owing → OwnRowMove N w d s
-  kept s e f st = keeps (ap (λ r. r.number) e) (λ a. subst HasAccepted (ap (λ r. r.standing) e) a)
+  kept e f st = keeps (ap (λ r. r.number) e) (λ a. subst HasAccepted (ap (λ r. r.standing) e) a)
       (λ b y k. l.gathered d y (sym (ap (λ r. r.standing) e) ∙ b) (sym (ap (λ u. on u y) f) ∙ k)) st
 
   -- a row is set that was offered or bound, and nothing is gathered any more
-  sets : (s : State) (M k : ℕ) → s.rows ≡ upd (w.at d).rows M (record { number = number w d M; standing = k }) →
+  sets : {s : State} (M k : ℕ) → s.rows ≡ upd (w.at d).rows M (record { number = number w d M; standing = k }) →
       (M ≡ d → HasAccepted k → HasAccepted (standing w d d)) → s.gathered ≡ [] → Strikes w d s.owing →
       OwnRowMove N w d s
-  sets s M k e f h st =
+  sets M k e f h st =
       let r = ap (λ u. u d) e in
       elim (upd_tells (w.at d).rows M (record { number = number w d M; standing = k }) d) [
         | inl q ↦ keeps (ap (λ u. u.number) (r ∙ q.1) ∙ ap (number w d) (sym q.0))
@@ -78,73 +78,71 @@ module _ (N : ℕ) (P : Policy) (w : History) (d : ℕ) (z : Bool) (ℓ₀ : Lis
             (λ _ y k. absurd (on_none y (sym (ap (λ u. on u y) h) ∙ k))) st
       ]
 
-  own_row_move : (s : State) (i j : ℕ) → Effect N P w d z ℓ₀ s i j → OwnRowMove N w d s
-  own_row_move s i j (keep b st) = kept s refl refl st
-  own_row_move s i j (issue n f u) = kept s refl refl (λ y h. inl h)
-  own_row_move s i j (return n f) = kept s refl refl (λ y h. inl h)
-  own_row_move s i j (lay n) = kept s refl refl (λ y h. inl h)
-  own_row_move s i j (want n f) = kept s refl refl (λ y h. inl h)
-  own_row_move s i j (hear b L y st e a u) = kept s refl refl st
-  own_row_move s i j (restart L e b) = kept s refl refl (λ y h. inl h)
-  own_row_move s i j (lead f u) = leads (grind (arith, upd_tells)) (grind (arith, upd_tells)) (on_one _) (f d) u
-  own_row_move s i j (offer b L n st lt f u a) =
-      kept s (elim (upd_tells (w.at d).rows L (record { number = n; standing = 1 }) d) [
+  own_row_move : {P : Policy} {z : Type 0} {ℓ₀ : List Entry} {s : State} {i j : ℕ} → Effect N P w d z ℓ₀ s i j → OwnRowMove N w d s
+  own_row_move (keep b st) = kept refl refl st
+  own_row_move (issue n f u) = kept refl refl (λ y h. inl h)
+  own_row_move (return n f) = kept refl refl (λ y h. inl h)
+  own_row_move (lay n) = kept refl refl (λ y h. inl h)
+  own_row_move (want n f) = kept refl refl (λ y h. inl h)
+  own_row_move (hear b L y st e a u) = kept refl refl st
+  own_row_move (restart L e b) = kept refl refl (λ y h. inl h)
+  own_row_move (lead f u) = leads (grind (arith, upd_tells)) (grind (arith, upd_tells)) (on_one _) (f d) u
+  own_row_move (offer b L n st lt f u a) =
+      kept (elim (upd_tells (w.at d).rows L (record { number = n; standing = 1 }) d) [
         | inl q ↦ absurd (let a' = subst (λ x. 1 ≤ w.past x x n) (sym q.0) a in
             let b = (g.own d).later d n (subst (λ x. number w d x < n) (sym q.0) u) in omega arith)
         | inr q ↦ q.1
       ]) refl st
-  own_row_move s i j (gather b e st h a) =
+  own_row_move (gather b e st h a) =
       keeps refl (λ a. a) (λ k y f. elim (on_insert e _ y f) [
         | inl q ↦ subst (λ x. 1 ≤ w.past x d (number w d d)) q a
         | inr q ↦ l.gathered d y h q
       ]) st
-  own_row_move s i j (propose e₀ e f u) = proposes (grind (arith, upd_tells)) (grind (arith, upd_tells)) e
+  own_row_move {P} (propose e₀ e f u) = proposes (grind (arith, upd_tells)) (grind (arith, upd_tells)) e
       (λ y k. (
         l.gathered d y e k,
         (rising_on N 0 _ y (rising_of N 0 _ f.listed.rises f.low) k).1,
         elim
             (cases_eq y d) [ inl q ↦ inl q | inr q ↦ inr (on_others N P d _ y k q) ],
       ))
-  own_row_move s i j (accept b L ℓ e₀ st e a q f u) =
-      sets s L 2 refl (λ v _. subst HasAccepted ((g.own d).now d)
+  own_row_move (accept b L ℓ e₀ st e a q f u) =
+      sets L 2 refl (λ v _. subst HasAccepted ((g.own d).now d)
       (subst (λ x. HasAccepted (w.past x x (number w d x))) v a)) refl st
-  own_row_move s i j (join b L ℓ e₀ st e a q f u) =
-      sets s L 4 refl (λ v _. subst HasAccepted ((g.own d).now d)
+  own_row_move (join b L ℓ e₀ st e a q f u) =
+      sets L 4 refl (λ v _. subst HasAccepted ((g.own d).now d)
       (subst (λ x. HasAccepted (w.past x x (number w d x))) v a)) refl st
-  own_row_move s i j (refuse b L st e) = sets s L 3 refl (λ _ a. absurd (omega arith)) refl st
-  own_row_move s i j (settle b L st e a) = sets s L 4 refl (λ q _. let r = ap (standing w d) q in omega arith) refl st
-  own_row_move s i j (drop b L y st e a h) = sets s L 5 refl (λ q _. let r = ap (standing w d) q in omega arith) refl st
+  own_row_move (refuse b L st e) = sets L 3 refl (λ _ a. absurd (omega arith)) refl st
+  own_row_move (settle b L st e a) = sets L 4 refl (λ q _. let r = ap (standing w d) q in omega arith) refl st
+  own_row_move (drop b L y st e a h) = sets L 5 refl (λ q _. let r = ap (standing w d) q in omega arith) refl st
 
-  module _ (s : State) (o : Option Contents) (i j : ℕ) (does : Effect N P w d z ℓ₀ s i j) where
+  module _ {P : Policy} {z : Type 0} {ℓ₀ : List Entry} {s : State} {i j : ℕ} (does : Effect N P w d z ℓ₀ s i j) where
     abbrev w' : History
-    w' = next w d s o
+    w' = next w d s none
 
     mv : RowMove N w d s
-    mv = move_of N P w d z ℓ₀ d<N g s i j does
+    mv = move_of d<N g does
 
     at_least : (x L n k : ℕ) → k ≤ w.past x L n → k ≤ w'.past x L n
-    at_least x L n k h = let q = le_on _ _ (grows N w d g s o mv x L n) in omega arith
+    at_least x L n k h = let q = le_on _ _ (grows g mv x L n) in omega arith
 
     listed : (L n : ℕ) → HasAccepted (w.past L L n) → w'.lists L n ≡ w.lists L n
-    listed = lists_kept N w d g s o mv
+    listed = lists_kept g mv
 
     rowed_d : (L : ℕ) → ((s.rows L).number ≡ 0) ⊎ (1 ≤ (s.rows L).standing)
-    rowed_d L = go mv
-      where
-        go : RowMove N w d s → ((s.rows L).number ≡ 0) ⊎ (1 ≤ (s.rows L).standing)
-        go (still e f) = rw (ap (λ u. u L) e) (l.rowed d L)
-        go (moves M m k pos e lt up only t f) =
-            rw (ap (λ u. u L) e) (elim (upd_tells (w.at d).rows M (record { number = m; standing = k }) L)
-            [ inl q ↦ rw q.1 (inr pos) | inr q ↦ rw q.1 (l.rowed d L) ])
+    rowed_d L = elim mv [
+      | still e f ↦ rw (ap (λ u. u L) e) (l.rowed d L)
+      | moves M m k pos e lt up only t f ↦
+          rw (ap (λ u. u L) e) (elim (upd_tells (w.at d).rows M (record { number = m; standing = k }) L)
+          [ inl q ↦ rw q.1 (inr pos) | inr q ↦ rw q.1 (l.rowed d L) ])
+    ]
 
     gathered_d : (y : ℕ) → (s.rows d).standing ≡ 1 → on s.gathered y ≡ true → 1 ≤ w'.past y d (s.rows d).number
-    gathered_d y h k = go (own_row_move s i j does)
-      where
-        go : OwnRowMove N w d s → 1 ≤ w'.past y d (s.rows d).number
-        go (keeps e f c st) = at_least y d _ 1 (subst (λ m. 1 ≤ w.past y d m) (sym e) (c h y k))
-        go (leads e f c n u) = subst (λ x. 1 ≤ w'.past x d (s.rows d).number) (sym (c y k))
-            (let q = now_d N w d g s o mv d in omega arith)
-        go (proposes e f c n) = absurd (omega arith)
+    gathered_d y h k = elim (own_row_move does) [
+      | keeps e f c st ↦ at_least y d _ 1 (subst (λ m. 1 ≤ w.past y d m) (sym e) (c h y k))
+      | leads e f c n u ↦ subst (λ x. 1 ≤ w'.past x d (s.rows d).number) (sym (c y k))
+          (let q = now_d g mv d in omega arith)
+      | proposes e f c n ↦ absurd (omega arith)
+    ]
 
     -- of a list that stood before the call
     old_offered : (L n y : ℕ) → HasAccepted (w.past L L n) → on (w'.lists L n) y ≡ true →
@@ -158,22 +156,22 @@ module _ (N : ℕ) (P : Policy) (w : History) (d : ℕ) (z : Bool) (ℓ₀ : Lis
 
     offered_d : (n y : ℕ) → HasAccepted (w'.past d d n) → on (w'.lists d n) y ≡ true → (1 ≤ w'.past y d n) × (y < N)
     offered_d n y a k = elim (cases_eq n (s.rows d).number) [
-      | inl q ↦ go q (own_row_move s i j does)
+      | inl q ↦ go q (own_row_move does)
       | inr q ↦ old_offered d n y (let r : w'.past d d n ≡ w.past d d n = grind (arith, nat_tests) in omega arith) k
     ]
       where
         go : n ≡ (s.rows d).number → OwnRowMove N w d s → (1 ≤ w'.past y d n) × (y < N)
         go q (keeps e f c st) = old_offered d n y
             (subst HasAccepted (sym ((g.own d).now d) ∙ ap (w.past d d) (sym (q ∙ e)))
-            (f (subst HasAccepted (ap (w'.past d d) q ∙ now_d N w d g s o mv d) a))) k
-        go q (leads e f c n u) = absurd (let r = ap (w'.past d d) q ∙ now_d N w d g s o mv d in omega arith)
+            (f (subst HasAccepted (ap (w'.past d d) q ∙ now_d g mv d) a))) k
+        go q (leads e f c n u) = absurd (let r = ap (w'.past d d) q ∙ now_d g mv d in omega arith)
         go q (proposes e f c h) =
-            let r = h y (ap (λ u. on u y) (list_d N w d g s o mv d f ∙ ap (w'.lists d) (sym q)) ∙ k) in
+            let r = h y (ap (λ u. on u y) (list_d g mv d f ∙ ap (w'.lists d) (sym q)) ∙ k) in
             (at_least y d n 1 (subst (λ m. 1 ≤ w.past y d m) (sym (q ∙ e)) r.0), r.1)
 
     owing_d : (y : ℕ) → HasAccepted (s.rows d).standing → on (w'.lists d (s.rows d).number) y ≡ true →
         (y ≡ d) ⊎ ((has s.owing y ≡ true) ⊎ (3 ≤ w'.past y d (s.rows d).number))
-    owing_d y a k = go (own_row_move s i j does)
+    owing_d y a k = go (own_row_move does)
       where
         went : (s.rows d).number ≡ number w d d → 3 ≤ w.past y d (number w d d) → 3 ≤ w'.past y d (s.rows d).number
         went e h = at_least y d _ 3 (subst (λ m. 3 ≤ w.past y d m) (sym e) h)
@@ -189,11 +187,11 @@ module _ (N : ℕ) (P : Policy) (w : History) (d : ℕ) (z : Bool) (ℓ₀ : Lis
         go (keeps e f c st) = ⊎_map (λ u. u)
             (λ u. elim u [ inl v ↦ ⊎_map (λ x. x) (went e) (st y v) | inr v ↦ inr (went e v) ]) (old e (f a))
         go (leads e f c n u) = absurd (omega arith)
-        go (proposes e f c n) = ⊎_map (λ u. u) (λ u. inl u) (n y (ap (λ u. on u y) (list_d N w d g s o mv d f) ∙ k)).2
+        go (proposes e f c n) = ⊎_map (λ u. u) (λ u. inl u) (n y (ap (λ u. on u y) (list_d g mv d f) ∙ k)).2
 
     over_d : (n y : ℕ) → HasAccepted (w'.past d d n) → n < (s.rows d).number → on (w'.lists d n) y
         ≡ true → 3 ≤ w'.past y d n
-    over_d n y a b k = go (own_row_move s i j does)
+    over_d n y a b k = go (own_row_move does)
       where
         before : HasAccepted (w.past d d n)
         before = let r : w'.past d d n ≡ w.past d d n = grind (arith, nat_tests) in omega arith
@@ -221,8 +219,8 @@ module _ (N : ℕ) (P : Policy) (w : History) (d : ℕ) (z : Bool) (ℓ₀ : Lis
                   ]
                 ])
 
-    pub leaders_next : LeadersKnow N w'
-    leaders_next =
+    pub leaders_next : (o : Option Contents) → LeadersKnow N (next w d s o)
+    leaders_next o =
         record {
           rowed = λ x L. case' x (λ _ z _. ((z.rows L).number ≡ 0) ⊎ (1 ≤ (z.rows L).standing))
               (rowed_d L) (λ _. l.rowed x L);
@@ -240,4 +238,4 @@ module _ (N : ℕ) (P : Policy) (w : History) (d : ℕ) (z : Bool) (ℓ₀ : Lis
       where
         case' : (x : ℕ) (Q : ℕ → State → (ℕ → ℕ → ℕ) → Type 0) → Q d s (w'.past d) →
             ((x ≡ d → ⊥) → Q x (w.at x) (w.past x)) → Q x (w'.at x) (w'.past x)
-        case' = case N w d g s o mv
+        case' = case g mv

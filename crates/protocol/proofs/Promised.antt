@@ -14,9 +14,9 @@ pub kept : (P : Policy) → LawfulPolicy P → (o : Opening) → LawfulOpening o
     Series P o (just_opened o) w → Kept P o w
 kept P lawful o ok w s =
     record {
-      agreement = agreement P lawful o ok s;
-      conservation = conservation P lawful o ok s;
-      way_out = way_out P lawful o ok s;
+      agreement = agreement lawful ok s;
+      conservation = conservation lawful ok s;
+      way_out = way_out lawful ok s;
     }
 
 pub promised : Promises

@@ -25,15 +25,10 @@ use Rattle.protocol.proofs.Tests.{upd_tells, by}
 use Rattle.protocol.proofs.ByKind.{by_kind, by_kind_lem}
 use Rattle.protocol.proofs.History.{History, site_of}
 use Rattle.protocol.proofs.History.{standing, number, Effect, Safe, LeadersKnow}
-use Rattle.protocol.proofs.History.Effect.{keep as did-keep, issue as did-issue, return as did-return, lay as did-lay}
-use Rattle.protocol.proofs.History.Effect.{want as did-want, hear as did-hear, restart as did-restart, lead as did-lead}
-use Rattle.protocol.proofs.History.Effect.{offer as did-offer, gather as did-gather, propose as did-propose}
-use Rattle.protocol.proofs.History.Effect.{accept as did-accept, join as did-join, refuse as did-refuse}
-use Rattle.protocol.proofs.History.Effect.{settle as did-settle, drop as did-drop}
 use Rattle.protocol.proofs.LawfulLists.{kind_back}
 
 -- While one is bound, its leader has not gone on, nor has anybody in the leader's row
-module _ (N : ℕ) (w : History) (g : Safe N w) (l : LeadersKnow N w) (x L n : ℕ) (b : w.past x L n ≡ 2) where
+module _ {N : ℕ} {w : History} (g : Safe N w) (l : LeadersKnow N w) (x L n : ℕ) (b : w.past x L n ≡ 2) where
   pub at_n : number w x L ≡ n
   at_n = (g.own x).live L n (omega arith)
 
@@ -83,8 +78,7 @@ module _ (N : ℕ) (w : History) (g : Safe N w) (l : LeadersKnow N w) (x L n : �
       (omega arith, omega arith, λ f q. let r = ap (λ u. w.past u L n) q in omega arith)
 
 -- what is heard stays heard
-module _ (N : ℕ) (P : Policy) (w : History) (d : ℕ) (z : Bool) (ℓ₀ : List Entry) (d<N : d < N) (g : Safe N w)
-    (zf : z ≡ false) (L : ℕ) (b : standing w d L ≡ 2) where
+module _ {N : ℕ} {w : History} {d : ℕ} (g : Safe N w) (L : ℕ) (b : standing w d L ≡ 2) where
   ended_on : (s : State) (M m k : ℕ) → s.rows ≡ upd (w.at d).rows M (record { number = m; standing = k }) →
       Engages (standing w d M) → (k ≡ 2 → standing w d M ≡ 1) → (s.rows L).standing ≡ 2 → ⊥
   ended_on s M m k e a f h = let q = g.single d L M (omega arith) a in let r = ap (λ u. u L) e in
@@ -92,28 +86,28 @@ module _ (N : ℕ) (P : Policy) (w : History) (d : ℕ) (z : Bool) (ℓ₀ : Lis
       elim (upd_tells (w.at d).rows M (record { number = m; standing = k }) L)
       [ inl u ↦ (let v = f (cc) in omega arith) | inr u ↦ u.0 q ]
 
-  pub heard_on : (s : State) (i j : ℕ) → Effect N P w d z ℓ₀ s i j → (s.rows L).standing ≡ 2 → (y : ℕ) →
+  pub heard_on : {P : Policy} {z : Type 0} {ℓ₀ : List Entry} {s : State} {i j : ℕ} → (z → ⊥) → Effect N P w d z ℓ₀ s i j → (s.rows L).standing ≡ 2 → (y : ℕ) →
       has (w.at d).heard y ≡ true → has s.heard y ≡ true
-  heard_on s i j (did-keep b st) h y k = k
-  heard_on s i j (did-issue n f u) h y k = k
-  heard_on s i j (did-return n f) h y k = k
-  heard_on s i j (did-lay n) h y k = k
-  heard_on s i j (did-want n f) h y k = k
-  heard_on s i j (did-hear c M x st e a u) h y k = add_keeps _ x y k
-  heard_on s i j (did-restart M e c) h y k = absurd (both_ways z zf e)
-  heard_on s i j (did-lead f u) h y k = absurd (f L (omega arith))
-  heard_on s i j (did-offer c M n st lt f u a) h y k = k
-  heard_on s i j (did-gather c e st f a) h y k = k
-  heard_on s i j (did-propose e₀ e f u) h y k = absurd (ended_on s d _ 2 refl (omega arith) (λ _. e) h)
-  heard_on s i j (did-accept c M ℓ e₀ st e a q f u) h y k = absurd (ended_on s M _ 2 refl (omega arith) (λ _. e) h)
-  heard_on s i j (did-join c M ℓ e₀ st e a q f u) h y k =
-      absurd (ended_on s M _ 4 refl (omega arith) (λ v. absurd (omega arith)) h)
-  heard_on s i j (did-refuse c M st e) h y k =
-      absurd (ended_on s M _ 3 refl (omega arith) (λ v. absurd (omega arith)) h)
-  heard_on s i j (did-settle c M st e a) h y k =
-      absurd (ended_on s M _ 4 refl (omega arith) (λ v. absurd (omega arith)) h)
-  heard_on s i j (did-drop c M x st e a u) h y k =
-      absurd (ended_on s M _ 5 refl (omega arith) (λ v. absurd (omega arith)) h)
+  heard_on never (Effect.keep b st) h y k = k
+  heard_on never (Effect.issue n f u) h y k = k
+  heard_on never (Effect.return n f) h y k = k
+  heard_on never (Effect.lay n) h y k = k
+  heard_on never (Effect.want n f) h y k = k
+  heard_on never (Effect.hear c M x st e a u) h y k = add_keeps _ x y k
+  heard_on never (Effect.restart M e c) h y k = absurd (never e)
+  heard_on never (Effect.lead f u) h y k = absurd (f L (omega arith))
+  heard_on never (Effect.offer c M n st lt f u a) h y k = k
+  heard_on never (Effect.gather c e st f a) h y k = k
+  heard_on {s = s} never (Effect.propose e₀ e f u) h y k = absurd (ended_on s d _ 2 refl (omega arith) (λ _. e) h)
+  heard_on {s = s} never (Effect.accept c M ℓ e₀ st e a q f u) h y k = absurd (ended_on s M _ 2 refl (omega arith) (λ _. e) h)
+  heard_on {s = s} never (Effect.join c M ℓ e₀ st e a q f u) h y k =
+      absurd (ended_on s M _ 4 refl (omega arith) (omega arith) h)
+  heard_on {s = s} never (Effect.refuse c M st e) h y k =
+      absurd (ended_on s M _ 3 refl (omega arith) (omega arith) h)
+  heard_on {s = s} never (Effect.settle c M st e a) h y k =
+      absurd (ended_on s M _ 4 refl (omega arith) (omega arith) h)
+  heard_on {s = s} never (Effect.drop c M x st e a u) h y k =
+      absurd (ended_on s M _ 5 refl (omega arith) (omega arith) h)
 
 -- Yes, No, Settle, Drop
 abbrev pub IsAnswer : Kind → Type 0
@@ -191,13 +185,13 @@ module _ (N : ℕ) (P : Policy) (w : History) (y : ℕ) (m : Contents) (code : m
       sit : Situation
       sit = situation a s₁ m.leader m.sender m.number m.entries
 
-module _ (N : ℕ) (P : Policy) (x L n y : ℕ) (w : History) (g : Safe N w) (l : LeadersKnow N w) (b : w.past x L n ≡ 2)
+module _ {N : ℕ} (P : Policy) (x L n y : ℕ) {w : History} (g : Safe N w) (l : LeadersKnow N w) (b : w.past x L n ≡ 2)
     (h : on (w.lists L n) y ≡ true) (x<N : x < N) (y≢x : y ≡ x → ⊥) where
   y<N : y < N
-  y<N = (l.offered L n y (led_x N w g l x L n b) h).1
+  y<N = (l.offered L n y (led_x g l x L n b) h).1
 
   L<N : L < N
-  L<N = g.small x L (let q = bound_x N w g l x L n b in omega arith)
+  L<N = g.small x L (let q = bound_x g l x L n b in omega arith)
 
   reply : (t : State) (k : Kind) → (t.rows L).number ≡ n → IsAnswer k →
       Replies P x L n y (mail (site_of N P y) t k (mark x) L [])
@@ -221,8 +215,8 @@ module _ (N : ℕ) (P : Policy) (x L n y : ℕ) (w : History) (g : Safe N w) (l 
     -- whatever the standing, one of the lines of Query is for it
     query_told : To (by_kind kinds.Query (standing w y L) (situation (site_of N P y) sʸ L x n es))
     query_told =
-        let (lo, hi, no1) = stands N w g l x L n b y h in
-        let p = pinned N w g l x L n b y h in
+        let (lo, hi, no1) = stands g l x L n b y h in
+        let p = pinned g l x L n b y h in
         by To (λ _. reply (ended L 3 sʸ) kinds.No
         (let q : (upd (w.at y).rows L (record { number = number w y L; standing = 3 }) L).number ≡ number w y L =
         grind (arith, upd_tells) in q ∙ p) tt)
@@ -247,7 +241,7 @@ module _ (N : ℕ) (P : Policy) (x L n y : ℕ) (w : History) (g : Safe N w) (l 
   answer to es t =
       let s' = struck (site_of N P y) (w.at y) (query to es) in
       let v = strikes (site_of N P y) (query to es) in
-      stepped N P w y (query to es) refl t x<N L<N (λ q. y≢x (sym q)) (sym (pinned N w g l x L n b y h))
+      stepped N P w y (query to es) refl t x<N L<N (λ q. y≢x (sym q)) (sym (pinned g l x L n b y h))
       (λ r. Replies P x L n y (sends r))
       (subst (λ k. Replies P x L n y
       (sends (carried (site_of N P y) s' L x n es P v
@@ -263,7 +257,7 @@ module _ (N : ℕ) (P : Policy) (x L n y : ℕ) (w : History) (g : Safe N w) (l 
       [ inl u ↦ f (cc) | inr u ↦ u.0 refl ]
 
   here_bound : (eqb (standing w x L) 2 && on (w.at x).list y) ≡ true
-  here_bound = and_from _ _ (eq-eqb _ 2 (bound_x N w g l x L n b)) (ap (λ u. on u y) (list_x N w g l x L n b) ∙ h)
+  here_bound = and_from _ _ (eq-eqb _ 2 (bound_x g l x L n b)) (ap (λ u. on u y) (list_x g l x L n b) ∙ h)
 
   module _ (c : ℕ) (v : Bool) (es : List Entry) where
     abbrev sˣ : State
@@ -298,7 +292,7 @@ module _ (N : ℕ) (P : Policy) (x L n y : ℕ) (w : History) (g : Safe N w) (l 
   arrives r f =
       stepped N P w x r f.code f.to (subst (λ z. z < N) (sym f.from) y<N)
       (subst (λ z. z < N) (sym f.lead) L<N)
-      (λ q. y≢x (sym f.from ∙ q)) (f.about ∙ (sym (at_n N w g l x L n b) ∙ ap (number w x) (sym f.lead))) Heard
+      (λ q. y≢x (sym f.from ∙ q)) (f.about ∙ (sym (at_n g l x L n b) ∙ ap (number w x) (sym f.lead))) Heard
       (subst₃
       (λ L' y' n'. Heard (carried (site_of N P x) s' L' y' n' r.entries P (strikes (site_of N P x) r)
       (by_kind (kind_of r.kind) (standing w x L') (situation (site_of N P x) s' L' y' n' r.entries))))

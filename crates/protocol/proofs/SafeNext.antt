@@ -74,9 +74,10 @@ data Held (w : History) (d : ℕ) (s : State) (L : ℕ) : Type 0 where
       (L ≡ d) ⊎ (HasAccepted (w.past L L (s.rows L).number) × (s.list ≡ w.lists L (s.rows L).number)) →
       ((y : ℕ) → has s.heard y ≡ true → (y ≡ d) ⊎ (y ≡ L)) → HoldsList d L s → Held w d s L
 
-module _ (N : ℕ) (w : History) (d : ℕ) (g : Safe N w) (s : State) (o : Option Contents) (mv : RowMove N w d s) where
-  abbrev pub w' : History
-  w' = next w d s o
+-- What d's record comes to be, and how its rows moved. What is sent plays no part but in the last
+module _ {N : ℕ} {w : History} {d : ℕ} (g : Safe N w) {s : State} (mv : RowMove N w d s) where
+  abbrev w' : History
+  w' = next w d s none
 
   pub now_d : (L : ℕ) → w'.past d L (s.rows L).number ≡ (s.rows L).standing
   now_d L = grind (arith, nat_tests)
@@ -116,36 +117,32 @@ module _ (N : ℕ) (w : History) (d : ℕ) (g : Safe N w) (s : State) (o : Optio
 
   -- the rows of d
   rise : (L : ℕ) → number w d L ≤ (s.rows L).number
-  rise L = go mv
-    where
-      go : RowMove N w d s → number w d L ≤ (s.rows L).number
-      go (still e f) = let r = ap (λ u. (u L).number) e in omega arith
-      go (moves M m k pos e lt up only t f) =
-          rw (ap (λ u. u L) e) (elim (upd_tells (w.at d).rows M (record { number = m; standing = k }) L)
-          [ inl q ↦ grind arith | inr q ↦ grind arith ])
+  rise L = elim mv [
+    | still e f ↦ let r = ap (λ u. (u L).number) e in omega arith
+    | moves M m k pos e lt up only t f ↦
+        rw (ap (λ u. u L) e) (elim (upd_tells (w.at d).rows M (record { number = m; standing = k }) L)
+        [ inl q ↦ grind arith | inr q ↦ grind arith ])
+  ]
 
   pub engaged : (L : ℕ) → Engages (standing w d L) → (s.rows L).number ≡ number w d L
-  engaged L b = go mv
-    where
-      go : RowMove N w d s → (s.rows L).number ≡ number w d L
-      go (still e f) = ap (λ u. (u L).number) e
-      go (moves M m k pos e lt up only t f) = let r = ap (λ u. u L) e in let o = only L b in grind (arith, upd_tells)
+  engaged L b = elim mv [
+    | still e f ↦ ap (λ u. (u L).number) e
+    | moves M m k pos e lt up only t f ↦ let r = ap (λ u. u L) e in let o = only L b in grind (arith, upd_tells)
+  ]
 
   pub one : (L M : ℕ) → Engages (s.rows L).standing → Engages (s.rows M).standing → L ≡ M
-  one L M a b = go mv
-    where
-      go : RowMove N w d s → L ≡ M
-      go (still e f) = g.single d L M (rw (ap (λ u. (u L).standing) e) at a) (rw (ap (λ u. (u M).standing) e) at b)
-      go (moves O m k pos e lt up only t f) = let r = ap (λ u. u L) e in let r' = ap (λ u. u M) e in let p = only L in
-          let p' = only M in grind (arith, upd_tells)
+  one L M a b = elim mv [
+    | still e f ↦ g.single d L M (rw (ap (λ u. (u L).standing) e) at a) (rw (ap (λ u. (u M).standing) e) at b)
+    | moves O m k pos e lt up only t f ↦ let r = ap (λ u. u L) e in let r' = ap (λ u. u M) e in let p = only L in
+        let p' = only M in grind (arith, upd_tells)
+  ]
 
   pub low : (L : ℕ) → 1 ≤ (s.rows L).standing → L < N
-  low L a = go mv
-    where
-      go : RowMove N w d s → L < N
-      go (still e f) = g.small d L (rw (ap (λ u. (u L).standing) e) at a)
-      go (moves O m k pos e lt up only t f) = let r = ap (λ u. u L) e in let q = g.small d L in
-          grind (arith, upd_tells)
+  low L a = elim mv [
+    | still e f ↦ g.small d L (rw (ap (λ u. (u L).standing) e) at a)
+    | moves O m k pos e lt up only t f ↦ let r = ap (λ u. u L) e in let q = g.small d L in
+        grind (arith, upd_tells)
+  ]
 
   live_d : (L n : ℕ) → Engages (w'.past d L n) → (s.rows L).number ≡ n
   live_d L n h = elim (cases_eq n (s.rows L).number) [ inl e ↦ sym e | inr e ↦ go (grind (arith, nat_tests)) ]
@@ -195,42 +192,39 @@ module _ (N : ℕ) (w : History) (d : ℕ) (g : Safe N w) (s : State) (o : Optio
           absurd (let k : w.past L L n ≡ 1 = rw (r, p) (rw p at b) in omega arith)
 
   pub list_d : (L : ℕ) → (s.rows L).standing ≡ 2 → s.list ≡ w'.lists L (s.rows L).number
-  list_d L h = go (held L h)
-    where
-      go : Held w d s L → s.list ≡ w'.lists L (s.rows L).number
-      go (old b m l f x) =
-          l
-          ∙ (g.list d L b ∙ (ap (w.lists L) (sym m)
-          ∙ sym (lists_kept L _ (rw (← m) at (g.led d L _ (acc_2 _ ((g.own d).now L ∙ b)))))))
-      go (new b (inl e) f x) = grind (arith, nat_tests)
-      go (new b (inr c) f x) = c.1 ∙ sym (lists_kept L _ c.0)
+  list_d L h = elim (held L h) [
+    | old b m l f x ↦
+        l
+        ∙ (g.list d L b ∙ (ap (w.lists L) (sym m)
+        ∙ sym (lists_kept L _ (rw (← m) at (g.led d L _ (acc_2 _ ((g.own d).now L ∙ b)))))))
+    | new b (inl e) f x ↦ grind (arith, nat_tests)
+    | new b (inr c) f x ↦ c.1 ∙ sym (lists_kept L _ c.0)
+  ]
 
   asked_d : (L n : ℕ) → 1 ≤ w'.past d L n → 1 ≤ w'.past L L n
-  asked_d L n a = go (turn L n)
+  asked_d L n a = elim (turn L n) [
+    | same e ↦ up (omega arith)
+    | opens b e (inl c) ↦ subst (λ z. 1 ≤ w'.past z L n) (sym c) a
+    | opens b e (inr c) ↦ let r = le_on _ _ (grows L L n) in omega arith
+    | binds b e c ↦ up (omega arith)
+    | refuses b e ↦ up (omega arith)
+    | settles b e c f m ↦ up (omega arith)
+    | drops b e c y f h ↦ up (omega arith)
+  ]
     where
       up : 1 ≤ w.past d L n → 1 ≤ w'.past L L n
       up h = let q = g.asked d L n h in let r = le_on _ _ (grows L L n) in omega arith
 
-      go : StandingMove w d L n (w.past d L n) (w'.past d L n) → 1 ≤ w'.past L L n
-      go (same e) = up (omega arith)
-      go (opens b e (inl c)) = subst (λ z. 1 ≤ w'.past z L n) (sym c) a
-      go (opens b e (inr c)) = let r = le_on _ _ (grows L L n) in omega arith
-      go (binds b e c) = up (omega arith)
-      go (refuses b e) = up (omega arith)
-      go (settles b e c f m) = up (omega arith)
-      go (drops b e c y f h) = up (omega arith)
-
   led_d : (L n : ℕ) → HasAccepted (w'.past d L n) → HasAccepted (w'.past L L n)
-  led_d L n a = go (turn L n)
-    where
-      go : StandingMove w d L n (w.past d L n) (w'.past d L n) → HasAccepted (w'.past L L n)
-      go (same e) = accs L L n (g.led d L n (omega arith))
-      go (opens b e c) = absurd (omega arith)
-      go (binds b e (inl c)) = subst (λ z. HasAccepted (w'.past z L n)) (sym c) a
-      go (binds b e (inr c)) = accs L L n c
-      go (refuses b e) = absurd (omega arith)
-      go (settles b e c f m) = accs L L n c
-      go (drops b e c y f h) = accs L L n c
+  led_d L n a = elim (turn L n) [
+    | same e ↦ accs L L n (g.led d L n (omega arith))
+    | opens b e c ↦ absurd (omega arith)
+    | binds b e (inl c) ↦ subst (λ z. HasAccepted (w'.past z L n)) (sym c) a
+    | binds b e (inr c) ↦ accs L L n c
+    | refuses b e ↦ absurd (omega arith)
+    | settles b e c f m ↦ accs L L n c
+    | drops b e c y f h ↦ accs L L n c
+  ]
 
   heard_d : (L y : ℕ) → (s.rows L).standing ≡ 2 → has s.heard y ≡ true →
       HasAccepted (w'.past y L (s.rows L).number)
@@ -247,28 +241,26 @@ module _ (N : ℕ) (w : History) (d : ℕ) (g : Safe N w) (s : State) (o : Optio
       ]
 
   held_d : (L : ℕ) → (s.rows L).standing ≡ 2 → HoldsList d L s
-  held_d L h = go (held L h)
-    where
-      go : Held w d s L → HoldsList d L s
-      go (old b m l f x) = x
-      go (new b c f x) = x
+  held_d L h = elim (held L h) [
+    | old b m l f x ↦ x
+    | new b c f x ↦ x
+  ]
 
   listed_d : (L n : ℕ) → HasAccepted (w'.past d L n) → on (w'.lists L n) d ≡ true
-  listed_d L n a = go (turn L n)
+  listed_d L n a = elim (turn L n) [
+    | same e ↦ old (omega arith)
+    | opens b e c ↦ absurd (omega arith)
+    | binds b e c ↦
+        let q = live_d L n (omega arith) in
+        let r : (s.rows L).standing ≡ 2 = sym (now_d L) ∙ (ap (w'.past d L) q ∙ e) in
+        ap (λ ℓ. on ℓ d) (ap (w'.lists L) (sym q) ∙ sym (list_d L r)) ∙ (held_d L r).me
+    | refuses b e ↦ absurd (omega arith)
+    | settles b e c f m ↦ ap (λ ℓ. on ℓ d) (lists_kept L n c) ∙ m
+    | drops b e c y f h ↦ old (omega arith)
+  ]
     where
       old : HasAccepted (w.past d L n) → on (w'.lists L n) d ≡ true
       old b = ap (λ ℓ. on ℓ d) (lists_kept L n (g.led d L n b)) ∙ g.listed d L n b
-
-      go : StandingMove w d L n (w.past d L n) (w'.past d L n) → on (w'.lists L n) d ≡ true
-      go (same e) = old (omega arith)
-      go (opens b e c) = absurd (omega arith)
-      go (binds b e c) =
-          let q = live_d L n (omega arith) in
-          let r : (s.rows L).standing ≡ 2 = sym (now_d L) ∙ (ap (w'.past d L) q ∙ e) in
-          ap (λ ℓ. on ℓ d) (ap (w'.lists L) (sym q) ∙ sym (list_d L r)) ∙ (held_d L r).me
-      go (refuses b e) = absurd (omega arith)
-      go (settles b e c f m) = ap (λ ℓ. on ℓ d) (lists_kept L n c) ∙ m
-      go (drops b e c y f h) = old (omega arith)
 
   old_settled : (x L n y : ℕ) → w.past x L n ≡ 4 → on (w'.lists L n) y ≡ true → HasAccepted (w'.past y L n)
   old_settled x L n y h k = accs y L n (g.settled x L n y h (rw (lists_kept L n (g.led x L n (omega arith))) at k))
@@ -280,28 +272,25 @@ module _ (N : ℕ) (w : History) (d : ℕ) (g : Safe N w) (s : State) (o : Optio
       (q.0, ap (λ ℓ. on ℓ q.0) (lists_kept L n a) ∙ q.1, at_on _ _ (grows q.0 L n) (omega arith) ∙ q.2)
 
   settled_d : (L n y : ℕ) → w'.past d L n ≡ 4 → on (w'.lists L n) y ≡ true → HasAccepted (w'.past y L n)
-  settled_d L n y h k = go (turn L n)
-    where
-      go : StandingMove w d L n (w.past d L n) (w'.past d L n) → HasAccepted (w'.past y L n)
-      go (same e) = old_settled d L n y (omega arith) k
-      go (opens b e c) = absurd (omega arith)
-      go (binds b e c) = absurd (omega arith)
-      go (refuses b e) = absurd (omega arith)
-      go (settles b e c f m) = elim (f y (rw (lists_kept L n c) at k))
-          [ inl u ↦ subst (λ z. HasAccepted (w'.past z L n)) (sym u) (omega arith) | inr u ↦ accs y L n u ]
-      go (drops b e c z f q) = absurd (omega arith)
+  settled_d L n y h k = elim (turn L n) [
+    | same e ↦ old_settled d L n y (omega arith) k
+    | opens b e c ↦ absurd (omega arith)
+    | binds b e c ↦ absurd (omega arith)
+    | refuses b e ↦ absurd (omega arith)
+    | settles b e c f m ↦ elim (f y (rw (lists_kept L n c) at k))
+        [ inl u ↦ subst (λ z. HasAccepted (w'.past z L n)) (sym u) (omega arith) | inr u ↦ accs y L n u ]
+    | drops b e c z f q ↦ absurd (omega arith)
+  ]
 
   dropped_d : (L n : ℕ) → w'.past d L n ≡ 5 → (y : ℕ) × (on (w'.lists L n) y ≡ true) × (w'.past y L n ≡ 3)
-  dropped_d L n h = go (turn L n)
-    where
-      go : StandingMove w d L n (w.past d L n) (w'.past d L n) →
-          (y : ℕ) × (on (w'.lists L n) y ≡ true) × (w'.past y L n ≡ 3)
-      go (same e) = old_dropped d L n (omega arith)
-      go (opens b e c) = absurd (omega arith)
-      go (binds b e c) = absurd (omega arith)
-      go (refuses b e) = absurd (omega arith)
-      go (settles b e c f m) = absurd (omega arith)
-      go (drops b e c z f q) = (z, ap (λ ℓ. on ℓ z) (lists_kept L n c) ∙ f, at_on _ _ (grows z L n) (omega arith) ∙ q)
+  dropped_d L n h = elim (turn L n) [
+    | same e ↦ old_dropped d L n (omega arith)
+    | opens b e c ↦ absurd (omega arith)
+    | binds b e c ↦ absurd (omega arith)
+    | refuses b e ↦ absurd (omega arith)
+    | settles b e c f m ↦ absurd (omega arith)
+    | drops b e c z f q ↦ (z, ap (λ ℓ. on ℓ z) (lists_kept L n c) ∙ f, at_on _ _ (grows z L n) (omega arith) ∙ q)
+  ]
 
   old_letter : (m : Contents) → Among m w.sent → Backed w' m
   old_letter m h = vouches_on (kind_of m.kind) m.sender m.leader _ _ _ _ _
@@ -323,8 +312,8 @@ module _ (N : ℕ) (w : History) (d : ℕ) (g : Safe N w) (s : State) (o : Optio
   letters (some m') t m (inl e) = rw e (new_letter m' t)
   letters (some m') t m (inr h) = old_letter m h
 
-  pub safe_next : Vouched d s o → Safe N w'
-  safe_next t =
+  pub safe_next : (o : Option Contents) → Vouched d s o → Safe N (next w d s o)
+  safe_next o t =
       record {
         own = λ x. case x (λ _ z p. OwnPast p z) own_d (λ _. g.own x);
         single = λ x L M. case x (λ _ z _. Engages (z.rows L).standing → Engages (z.rows M).standing → L ≡ M)
