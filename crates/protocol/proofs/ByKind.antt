@@ -1,5 +1,6 @@
 -- The table of lines, kind by kind, as tests one after another: a line of another kind never fits.
 use Rattle.std.proofs.Common.{◌≡◌, ℕ, Bool, true, not, ◌&&◌, eqb, refl}
+use Rattle.std.proofs.lemmas.Bool.{and_parts, eqb-true}
 use Rattle.letters.specs.declared.letter.Kind.{Kind}
 use Rattle.letters.specs.declared.letter.Kind.TheVariants as kinds
 use Rattle.protocol.specs.declared.step.Whom.{Whom}
@@ -9,6 +10,7 @@ use Rattle.protocol.specs.declared.step.Step.TheVariants as steps
 use Rattle.protocol.specs.declared.step.Situation.{Situation}
 use Rattle.protocol.specs.Lines.{decided}
 use Rattle.protocol.specs.State.{pick}
+use Rattle.protocol.proofs.Tests.{by}
 
 -- Yes, No, Settle or Drop, by the standing
 abbrev pub tells_how : ℕ → Bool → Whom → Step
@@ -53,3 +55,8 @@ by_kind_lem kinds.Settle k o = refl
 by_kind_lem kinds.Drop k o = refl
 by_kind_lem kinds.Query k o = refl
 by_kind_lem kinds.Done k o = refl
+
+-- a line asks for a standing, and what its guard tests
+pub line : (Q : Step → Type 0) (k j : ℕ) {b : Bool} {x y : Step} → (k ≡ j → b ≡ true → Q x) → Q y →
+    Q (pick (eqb k j && b) x y)
+line Q k j f t = by Q (λ e. let (p, q) = and_parts _ _ e in f (eqb-true k j p) q) (λ _. t)

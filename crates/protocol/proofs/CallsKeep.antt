@@ -1,6 +1,6 @@
 -- Every call keeps a record's law, and what it sends is a lawful letter: by going through its refusals, and for Receive
 -- through the lines of each kind.
-use Rattle.std.proofs.Common.{◌≡◌, ℕ, ◌+◌, ◌-◌, ◌<◌, ◌≤◌, Bool, true, false, not, ◌&&◌, ◌||◌, eqb, ltb, leb, List, [], ◌∷◌, sym, refl, ◌∙◌, subst, inl, inr, arith}
+use Rattle.std.proofs.Common.{◌≡◌, ℕ, ◌+◌, ◌-◌, ◌<◌, ◌≤◌, Bool, true, false, not, ◌&&◌, ◌||◌, eqb, leb, List, [], ◌∷◌, sym, refl, ◌∙◌, subst, inl, inr, arith}
 use mathlib.Core.Option.{none}
 use Rattle.std.proofs.lemmas.Bool.{eqb-true, eqb-false, ltb-false, leb-true, leb-false, and_parts, or_parts, not-true, not-false, false≢true}
 use Rattle.entries.specs.declared.lists.Entry.{Entry}
@@ -20,20 +20,19 @@ use Rattle.protocol.specs.declared.step.Situation.{Situation}
 use Rattle.protocol.specs.Keeping.{Keeps}
 use Rattle.protocol.specs.Law.{LawfulList, Law}
 use Rattle.protocol.specs.Lines.{decided}
-use Rattle.protocol.specs.Listing.{every}
 use Rattle.protocol.specs.Outcome.{Outcome, refuses, serves, mail}
 use Rattle.protocol.specs.Own.{issue, give_back, set_wish, led, lead, proposed, propose, withdraw_in, query_in, restart_in}
 use Rattle.protocol.specs.Own.{remind}
 use Rattle.protocol.specs.Policy.{Policy, LawfulPolicy}
 use Rattle.protocol.specs.State.{pick, Site, State, fresh, engaged, rest, others, pair, gathers}
 use Rattle.protocol.specs.State.{ended}
-use Rattle.protocol.specs.Steps.{fits_gathered, gathered_with, acceptable_list, situation, to_whom, concluded, carried}
+use Rattle.protocol.specs.Steps.{fits_gathered, gathered_with, situation, to_whom, concluded, carried}
 use Rattle.protocol.specs.Taking.{kind_of, asks, strikes, struck, newer, step_for, take}
 use Rattle.protocol.proofs.InSets.{Below, mark_below, less_below, everyone_below, add_tells, add_keeps, self_pair}
 use Rattle.protocol.proofs.InSets.{head_pair, of_both}
 use Rattle.protocol.proofs.Tests.{by, not_every, other_way}
-use Rattle.protocol.proofs.ByKind.{tells_how, by_kind, by_kind_lem}
-use Rattle.protocol.proofs.LawfulLists.{asks_is, fits_on, every_all, binding_of, two, not_alone, CarriedBy}
+use Rattle.protocol.proofs.ByKind.{tells_how, by_kind, by_kind_lem, line}
+use Rattle.protocol.proofs.LawfulLists.{asks_is, acceptable_lawful, binding_of, two, not_alone, CarriedBy}
 use Rattle.protocol.proofs.LawfulLists.{lawful_right}
 use Rattle.protocol.proofs.RowSet.{row_set, owed_law}
 use Rattle.protocol.proofs.Letters.{plain, listing, offering}
@@ -87,8 +86,9 @@ module _ (P : Policy) (lawful : LawfulPolicy P) (a : Site) (s₀ : State) (law�
     unfolding pick
     law = owed_law a s₀ (strikes a m) m.sender law₀
 
-    at : (j : ℕ) → eqb (s.rows L).standing j ≡ true → (s.rows L).standing ≡ j
-    at j e = eqb-true _ j e
+    -- where the depot stands
+    abbrev here : ℕ
+    here = (s.rows L).standing
 
     unlined_kept : Go steps.Unlined
     unlined_kept = by Kept (λ _. silent law) denied
@@ -121,11 +121,10 @@ module _ (P : Policy) (lawful : LawfulPolicy P) (a : Site) (s₀ : State) (law�
 
     tells_kept : (b : Bool) (v : Whom) → Below max_depots (to v) → Go (tells_how (s.rows L).standing b v)
     tells_kept b v h =
-        by Go (λ e. let q = at 2 (and_parts _ _ e).0 in say_kept kinds.Yes refl v h (omega arith))
-        (λ _. by Go (λ e. let q = at 3 (and_parts _ _ e).0 in say_kept kinds.No refl v h (omega arith))
-        (λ _. by Go (λ e. let q = at 4 (and_parts _ _ e).0 in say_kept kinds.Settle refl v h (omega arith))
-        (λ _. by Go (λ e. let q = at 5 (and_parts _ _ e).0 in
-        say_kept kinds.Drop refl v h (omega arith)) (λ _. unlined_kept))))
+        line Go here 2 (λ q _. say_kept kinds.Yes refl v h (omega arith))
+        (line Go here 3 (λ q _. say_kept kinds.No refl v h (omega arith))
+        (line Go here 4 (λ q _. say_kept kinds.Settle refl v h (omega arith))
+        (line Go here 5 (λ q _. say_kept kinds.Drop refl v h (omega arith)) unlined_kept)))
 
     gather_kept : (xs : List Entry) → L ≡ a.depot → (s.rows L).standing ≡ 1 → Offered m.sender xs →
         fits_gathered s.gathered xs ≡ true → Kept (serves (gathers (gathered_with s.gathered xs) s) none)
@@ -161,54 +160,30 @@ module _ (P : Policy) (lawful : LawfulPolicy P) (a : Site) (s₀ : State) (law�
     kind_kept : (c : Kind) → CarriedBy m.sender c m.entries → ((s.rows L).standing ≡ 0 → ⊥) →
         Go (by_kind c (s.rows L).standing sit)
     kind_kept kinds.Ask r alive =
-        by Go (λ e. absurd (alive (at 0 (and_parts _ _ e).0)))
-        (λ _. by Go (λ e. let q = at 1 (and_parts _ _ e).0 in
-        record { law = law; mails = offering a s s law law (mark L) L to_leader_lem (omega arith) })
-        (λ _. unlined_kept))
+        line Go here 0 (λ q _. absurd (alive q))
+        (line Go here 1 (λ q _. record { law = law; mails = offering a s s law law (mark L) L to_leader_lem (omega arith) })
+        unlined_kept)
     kind_kept kinds.Offer r alive =
-        by Go (λ e. let (q, h) = and_parts _ _ e in let (l, f) = and_parts _ _ h in
-        gather_kept m.entries (eqb-true L _ l) (at 1 q) r f)
-        (λ _. by Go (λ _. silent law) (λ _. unlined_kept))
+        line Go here 1 (λ q h. let (l, f) = and_parts _ _ h in gather_kept m.entries (eqb-true L _ l) q r f)
+        (line Go here 1 (λ _ _. silent law) unlined_kept)
     kind_kept kinds.List r alive =
-        by Go (λ e. let (q, h) = and_parts _ _ e in
-        let (_, f) = and_parts (eqb m.sender L) (acceptable_list a s L m.sender m.number m.entries) h in
-        let (u, v) = and_parts (every m.entries (λ y. ltb y a.n)) _ f in
-        let (lead, x) = and_parts _ _ v in
-        let (me, shelf, wish) = fits_on a.depot _ _ m.entries x in
-        accept_kept (at 1 q) r
-        (record {
-          begun = record {
-            rises = r.rises;
-            depots = every_all a.n m.entries u;
-            wishes = r.wishes;
-            sum_within = r.sum_within;
-          };
-          lead = lead;
-          me = me;
-          own_shelf = shelf;
-          own_wish = wish;
-        }))
-        (λ _. by Go (λ e. refuse_kept Leader to_leader_lem (at 1 (and_parts _ _ e).0))
-        (λ _. tells_kept _ Leader to_leader_lem))
-    kind_kept kinds.Yes r alive = by Go (λ e. let (q, h) = and_parts _ _ e in hear_kept (at 2 q) h) (λ _. unlined_kept)
-    kind_kept kinds.No r alive =
-        by Go (λ e. let q = at 2 (and_parts _ _ e).0 in
-        drop_kept kinds.Drop refl Others (others_ok q) q) (λ _. unlined_kept)
+        line Go here 1 (λ q h. accept_kept q r
+        (acceptable_lawful a s L m.sender m.number m.entries r (and_parts (eqb m.sender L) _ h).1))
+        (line Go here 1 (λ q _. refuse_kept Leader to_leader_lem q) (tells_kept _ Leader to_leader_lem))
+    kind_kept kinds.Yes r alive = line Go here 2 hear_kept unlined_kept
+    kind_kept kinds.No r alive = line Go here 2 (λ q _. drop_kept kinds.Drop refl Others (others_ok q) q) unlined_kept
     kind_kept kinds.Settle r alive =
-        by Go (λ e. let q = at 2 (and_parts _ _ e).0 in settle_kept kinds.Settle refl Others (others_ok q) q)
-        (λ _. by Go (λ e. settle_kept kinds.Done refl Leader to_leader_lem (at 2 (and_parts _ _ e).0))
-        (λ _. by Go (λ e. let q = at 4 (and_parts _ _ e).0 in
-        say_kept kinds.Done refl Leader to_leader_lem (omega arith)) (λ _. unlined_kept)))
+        line Go here 2 (λ q _. settle_kept kinds.Settle refl Others (others_ok q) q)
+        (line Go here 2 (λ q _. settle_kept kinds.Done refl Leader to_leader_lem q)
+        (line Go here 4 (λ q _. say_kept kinds.Done refl Leader to_leader_lem (omega arith)) unlined_kept))
     kind_kept kinds.Drop r alive =
-        by Go (λ e. let q = at 2 (and_parts _ _ e).0 in drop_kept kinds.Drop refl Others (others_ok q) q)
-        (λ _. by Go (λ e. drop_kept kinds.Done refl Leader to_leader_lem (at 2 (and_parts _ _ e).0))
-        (λ _. by Go (λ e. refuse_kept Leader to_leader_lem (at 1 (and_parts _ _ e).0))
-        (λ _. by Go (λ e. let q = at 3 (and_parts _ _ e).0 in say_kept kinds.No refl Leader to_leader_lem (omega arith))
-        (λ _. by Go (λ e. let q = at 5 (and_parts _ _ e).0 in
-        say_kept kinds.Done refl Leader to_leader_lem (omega arith)) (λ _. unlined_kept)))))
+        line Go here 2 (λ q _. drop_kept kinds.Drop refl Others (others_ok q) q)
+        (line Go here 2 (λ q _. drop_kept kinds.Done refl Leader to_leader_lem q)
+        (line Go here 1 (λ q _. refuse_kept Leader to_leader_lem q)
+        (line Go here 3 (λ q _. say_kept kinds.No refl Leader to_leader_lem (omega arith))
+        (line Go here 5 (λ q _. say_kept kinds.Done refl Leader to_leader_lem (omega arith)) unlined_kept))))
     kind_kept kinds.Query r alive =
-        by Go (λ e. refuse_kept Sender (mark_ok _ y-low) (at 1 (and_parts _ _ e).0))
-        (λ _. tells_kept true Sender (mark_ok _ y-low))
+        line Go here 1 (λ q _. refuse_kept Sender (mark_ok _ y-low) q) (tells_kept true Sender (mark_ok _ y-low))
     kind_kept kinds.Done r alive = unlined_kept
 
     -- a new Ask, at a depot that is not engaged

@@ -19,19 +19,18 @@ use Rattle.protocol.specs.declared.step.Situation.{Situation}
 use Rattle.protocol.specs.Calls.{pieces}
 use Rattle.protocol.specs.Law.{HasAccepted, Law}
 use Rattle.protocol.specs.Lines.{decided}
-use Rattle.protocol.specs.Listing.{every}
 use Rattle.protocol.specs.Outcome.{Outcome, refuses, serves, mail, after, sends, served}
 use Rattle.protocol.specs.Own.{issue, give_back, set_wish, led, lead, proposed, propose, withdraw_in, query_in, restart_in}
 use Rattle.protocol.specs.Own.{remind}
 use Rattle.protocol.specs.Policy.{Policy}
 use Rattle.protocol.specs.State.{upd, Site, State, engaged, pair, owed, gathers, turned, bound, ended, settled}
-use Rattle.protocol.specs.Steps.{gathered_with, acceptable_list, situation, concluded, carried}
+use Rattle.protocol.specs.Steps.{gathered_with, situation, concluded, carried}
 use Rattle.protocol.specs.Taking.{kind_of, tells_end, asks, strikes, struck, newer, step_for, take}
 use Rattle.protocol.proofs.InSets.{mark_tells, add_tells}
 use Rattle.protocol.proofs.Tests.{upd_tells, by, every_one, other_way}
-use Rattle.protocol.proofs.ByKind.{tells_how, by_kind, by_kind_lem}
+use Rattle.protocol.proofs.ByKind.{tells_how, by_kind, by_kind_lem, line}
 use Rattle.protocol.proofs.RowSet.{idle}
-use Rattle.protocol.proofs.LawfulLists.{asks_is, kind_back, fits_on, every_all, binding_of, two, not_alone, CarriedBy}
+use Rattle.protocol.proofs.LawfulLists.{asks_is, kind_back, acceptable_lawful, binding_of, two, not_alone, CarriedBy}
 use Rattle.protocol.proofs.LawfulLists.{lawful_right}
 use Rattle.protocol.proofs.History.{History, site_of}
 use Rattle.protocol.proofs.History.{standing, number, Idle, BindingList, Strikes, Effect, Vouched, Safe, FromSender}
@@ -120,18 +119,19 @@ module _ {N : ℕ} (P : Policy) {w : History} {d : ℕ} (z : Type 0) (ℓ₀ : L
       abbrev Go : Step → Type 0
       Go x = Ok (carried a s₁ L y n es P k x)
 
-      at : (j : ℕ) → eqb (standing w d L) j ≡ true → standing w d L ≡ j
-      at j e = eqb-true _ j e
+      -- where d stands
+      abbrev here : ℕ
+      here = standing w d L
 
       unlined_explained : Go steps.Unlined
       unlined_explained = by Ok (λ _. still_explained) denied
 
       tells_explained : (b : Bool) (v : Whom) → Go (tells_how (standing w d L) b v)
       tells_explained b v =
-          by Go (λ e. let q = at 2 (and_parts _ _ e).0 in said kinds.Yes _ L [] (omega arith))
-          (λ _. by Go (λ e. said kinds.No _ L [] (at 3 (and_parts _ _ e).0))
-          (λ _. by Go (λ e. said kinds.Settle _ L [] (at 4 (and_parts _ _ e).0))
-          (λ _. by Go (λ e. said kinds.Drop _ L [] (inr (at 5 (and_parts _ _ e).0))) (λ _. unlined_explained))))
+          line Go here 2 (λ q _. said kinds.Yes _ L [] (omega arith))
+          (line Go here 3 (λ q _. said kinds.No _ L [] q)
+          (line Go here 4 (λ q _. said kinds.Settle _ L [] q)
+          (line Go here 5 (λ q _. said kinds.Drop _ L [] (inr q)) unlined_explained)))
 
       listed : standing w d L ≡ 2 → (x : ℕ) → on s₀.list x ≡ on (w.lists L (number w d L)) x
       listed e x = ap (λ ℓ. on ℓ x) (g.list d L e)
@@ -193,42 +193,31 @@ module _ {N : ℕ} (P : Policy) {w : History} {d : ℕ} (z : Type 0) (ℓ₀ : L
           Vouches c y L (w.past y L (number w d L)) es (λ ℓ. ℓ ≡ w.lists L (number w d L)) →
           Go (by_kind c (standing w d L) (situation a s₁ L y n es))
       kind_explained kinds.Ask e₀ alive r t =
-          by Go (λ e. absurd (alive (at 0 (and_parts _ _ e).0)))
-          (λ _. by Go (λ e. let q = at 1 (and_parts _ _ e).0 in said kinds.Offer _ L _ (omega arith, refl))
-          (λ _. unlined_explained))
+          line Go here 0 (λ q _. absurd (alive q))
+          (line Go here 1 (λ q _. said kinds.Offer _ L _ (omega arith, refl)) unlined_explained)
       kind_explained kinds.Offer e₀ alive r t =
-          by Go (λ e. let (q, h) = and_parts _ _ e in
-          gather_explained es (eqb-true L d (and_parts (eqb L d) _ h).0) (at 1 q) t.0 t.1)
-          (λ _. by Go (λ _. still_explained) (λ _. unlined_explained))
+          line Go here 1 (λ q h. gather_explained es (eqb-true L d (and_parts (eqb L d) _ h).0) q t.0 t.1)
+          (line Go here 1 (λ _ _. still_explained) unlined_explained)
       kind_explained kinds.List e₀ alive r t =
-          by Go (λ e. let (q, h) = and_parts _ _ e in
-          let (_, f) = and_parts (eqb y L) (acceptable_list a s₁ L y n es) h in
-          let (u, v) = and_parts (every es (λ y. ltb y N)) _ f in
-          let (_, x) = and_parts _ _ v in
-          let (me, mine, _) = fits_on d _ _ es x in
-          accept_explained e₀ (at 1 q) (subst (λ u. HasAccepted (w.past u L (number w d L))) t.0 t.1) t.2
-          (record { listed = r; low = every_all N es u; me = me; mine = mine }))
-          (λ _. by Go (λ e. refuse_explained L _ (at 1 (and_parts _ _ e).0)) (λ _. tells_explained _ Leader))
-      kind_explained kinds.Yes e₀ alive r t = by Go (λ e. hear_explained (at 2 (and_parts _ _ e).0) t)
-          (λ _. unlined_explained)
+          line Go here 1 (λ q h. let f = acceptable_lawful a s₁ L y n es r (and_parts (eqb y L) _ h).1 in
+          accept_explained e₀ q (subst (λ u. HasAccepted (w.past u L (number w d L))) t.0 t.1) t.2
+          (record { listed = r; low = f.begun.depots; me = f.me; mine = f.own_shelf }))
+          (line Go here 1 (λ q _. refuse_explained L _ q) (tells_explained _ Leader))
+      kind_explained kinds.Yes e₀ alive r t = line Go here 2 (λ q _. hear_explained q t) unlined_explained
       kind_explained kinds.No e₀ alive r t =
-          by Go (λ e. let (q, h) = and_parts _ _ e in drop_explained kinds.Drop Others (inr refl) (at 2 q) h (inl t))
-          (λ _. unlined_explained)
+          line Go here 2 (λ q h. drop_explained kinds.Drop Others (inr refl) q h (inl t)) unlined_explained
       kind_explained kinds.Settle e₀ alive r t =
-          by Go (λ e. settle_explained kinds.Settle Others refl (at 2 (and_parts _ _ e).0) t)
-          (λ _. by Go (λ e. settle_explained kinds.Done Leader (omega arith) (at 2 (and_parts _ _ e).0) t)
-          (λ _. by Go (λ e. let q = at 4 (and_parts _ _ e).0 in
-          said kinds.Done _ L [] (omega arith)) (λ _. unlined_explained)))
+          line Go here 2 (λ q _. settle_explained kinds.Settle Others refl q t)
+          (line Go here 2 (λ q _. settle_explained kinds.Done Leader (omega arith) q t)
+          (line Go here 4 (λ q _. said kinds.Done _ L [] (omega arith)) unlined_explained))
       kind_explained kinds.Drop e₀ alive r t =
-          by Go (λ e. let (q, h) = and_parts _ _ e in
-          drop_explained kinds.Drop Others (inr refl) (at 2 q) (and_parts (on s₀.list y) _ h).0 t)
-          (λ _. by Go (λ e. let (q, h) = and_parts _ _ e in drop_explained kinds.Done Leader (omega arith) (at 2 q) h t)
-          (λ _. by Go (λ e. refuse_explained L _ (at 1 (and_parts _ _ e).0))
-          (λ _. by Go (λ e. said kinds.No _ L [] (at 3 (and_parts _ _ e).0))
-          (λ _. by Go (λ e. let q = at 5 (and_parts _ _ e).0 in
-          said kinds.Done _ L [] (omega arith)) (λ _. unlined_explained)))))
+          line Go here 2 (λ q h. drop_explained kinds.Drop Others (inr refl) q (and_parts (on s₀.list y) _ h).0 t)
+          (line Go here 2 (λ q h. drop_explained kinds.Done Leader (omega arith) q h t)
+          (line Go here 1 (λ q _. refuse_explained L _ q)
+          (line Go here 3 (λ q _. said kinds.No _ L [] q)
+          (line Go here 5 (λ q _. said kinds.Done _ L [] (omega arith)) unlined_explained))))
       kind_explained kinds.Query e₀ alive r t =
-          by Go (λ e. refuse_explained L _ (at 1 (and_parts _ _ e).0)) (λ _. tells_explained true Sender)
+          line Go here 1 (λ q _. refuse_explained L _ q) (tells_explained true Sender)
       kind_explained kinds.Done e₀ alive r t = unlined_explained
 
   struck_explained : (m : Contents) → Backed w m → (strikes a m ≡ true → m.number ≡ number w d m.leader) →

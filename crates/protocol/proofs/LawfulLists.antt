@@ -16,7 +16,8 @@ use Rattle.std.proofs.ByRecursion.{All-weaker}
 use Rattle.entries.specs.Sets.{has, mark}
 use Rattle.protocol.specs.Law.{LawfulList}
 use Rattle.protocol.specs.Listing.{every, elsewhere}
-use Rattle.protocol.specs.State.{pick, Site, fits}
+use Rattle.protocol.specs.State.{pick, Site, State, fits}
+use Rattle.protocol.specs.Steps.{acceptable_list}
 use Rattle.protocol.specs.Taking.{kind_of, asks}
 use Rattle.protocol.proofs.Tests.{by}
 use Rattle.protocol.proofs.InSets.{of_mark, mark_self}
@@ -46,16 +47,36 @@ asks_is kinds.Drop h = absurd (false≢true h)
 asks_is kinds.Query h = absurd (false≢true h)
 asks_is kinds.Done h = absurd (false≢true h)
 
-pub fits_on : (d n v : ℕ) (ℓ : List Entry) → fits d n v ℓ ≡ true → (on ℓ d ≡ true) × ((entry_of ℓ d).shelf ≡ n)
+fits_on : (d n v : ℕ) (ℓ : List Entry) → fits d n v ℓ ≡ true → (on ℓ d ≡ true) × ((entry_of ℓ d).shelf ≡ n)
     × ((entry_of ℓ d).wish ≡ v)
 unfolding fits
 fits_on d n v ℓ h = let (a, b) = and_parts _ _ h in let (c, e) = and_parts _ _ b in (a, eqb-true _ _ c, eqb-true _ _ e)
 
-pub every_all : (N : ℕ) (ℓ : List Entry) → every ℓ (λ y. ltb y N) ≡ true → AllByRecursion (λ e. e.depot < N) ℓ
+every_all : (N : ℕ) (ℓ : List Entry) → every ℓ (λ y. ltb y N) ≡ true → AllByRecursion (λ e. e.depot < N) ℓ
 unfolding every
 every_all N [] h = tt
 every_all N (e ∷ ℓ) h = let (a, b) = and_parts (ltb e.depot N) (every ℓ (λ y. ltb y N)) h in
     (ltb-true _ N a, every_all N ℓ b)
+
+-- a list that can be accepted is one to be bound to
+pub acceptable_lawful : (a : Site) (s : State) (L y n : ℕ) (es : List Entry) → Listed es →
+    acceptable_list a s L y n es ≡ true → LawfulList a L s.shelf s.wish es
+acceptable_lawful a s L y n es l h =
+    let (u, v) = and_parts (every es (λ x. ltb x a.n)) _ h in
+    let (lead, f) = and_parts _ _ v in
+    let (me, shelf, wish) = fits_on a.depot _ _ es f in
+    record {
+      begun = record {
+        rises = l.rises;
+        depots = every_all a.n es u;
+        wishes = l.wishes;
+        sum_within = l.sum_within;
+      };
+      lead = lead;
+      me = me;
+      own_shelf = shelf;
+      own_wish = wish;
+    }
 
 -- a list with d and another depot
 pub two : (d : ℕ) (ℓ : List Entry) → on ℓ d ≡ true → every ℓ (has (mark d)) ≡ false → 2 ≤ length ℓ
