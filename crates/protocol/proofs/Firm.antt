@@ -1,7 +1,7 @@
 -- What is due to a depot by the last standings, told as two cases: bound to a list that every depot on it has accepted,
 -- and not.
 use Rattle.std.proofs.Common.{◌≡◌, ℕ, ◌+◌, ◌<◌, ◌≤◌, Bool, true, false, cond, ◌&&◌, eqb, List, sym, ap, ◌∙◌, inl, inr, arith}
-use Rattle.std.proofs.lemmas.Bool.{cond-true, cond-false, cases_Bool, eqb-true, eq-eqb, and_parts, and_from, both_ways}
+use Rattle.std.proofs.lemmas.Bool.{false_from_ne_true, cond-true, cond-false, cases_Bool, eqb-true, eq-eqb, and_parts, and_from, both_ways}
 use Rattle.entries.specs.declared.lists.Entry.{Entry}
 use Rattle.entries.specs.Lists.{on}
 use Rattle.protocol.specs.Law.{HasAccepted}
@@ -48,8 +48,7 @@ of_firm N p s low (L, a, b) = one_any N _ L (low L (omega arith))
     (λ y k. true_acc _ (b y k))))
 
 pub not_firm : (N : ℕ) (p : ℕ → ℕ → ℕ → ℕ) (s : State) → (Firm p s → ⊥) → firmly N p s.rows s.list ≡ false
-not_firm N p s f = elim (cases_Bool (firmly N p s.rows s.list))
-    [ inl e ↦ absurd (f (firm_of N p s e)) | inr e ↦ e ]
+not_firm N p s f = false_from_ne_true _ (λ e. f (firm_of N p s e))
 
 pub firm_same : (N : ℕ) (p p' : ℕ → ℕ → ℕ → ℕ) (s : State) → Low N s → (Firm p s → Firm p' s) → (Firm p' s → Firm p s) →
     firmly N p' s.rows s.list ≡ firmly N p s.rows s.list

@@ -1,7 +1,8 @@
 -- Who is in a set of depots, told as a case: by the laws of membership. A set of depots that there can be fits the
 -- place that a letter has for it.
-use Rattle.std.proofs.Common.{◌≡◌, ℕ, ◌^◌, ◌<◌, ◌≤◌, Bool, true, false, not, ◌||◌, ◌⊎◌, List, sym, refl, ap, ◌∙◌, subst, inl, inr, arith}
-use Rattle.std.proofs.lemmas.Bool.{cases_eq, eq-eqb, ne_eqb, ltb-true, and_parts, both_ways}
+use Rattle.std.proofs.Common.{◌≡◌, ℕ, ◌^◌, ◌<◌, ◌≤◌, true, false, not, ◌⊎◌, List, sym, refl, ◌∙◌, subst, inl, inr, arith}
+use Rattle.std.proofs.lemmas.Bool.Decides.{nat_tests}
+use Rattle.std.proofs.lemmas.Bool.{ltb-true, and_parts, both_ways}
 use Rattle.entries.specs.declared.lists.Entry.{Entry}
 use Rattle.entries.specs.Limits.{max_depots}
 use Rattle.entries.specs.Sets.{has, mark, add, less, everyone}
@@ -13,28 +14,12 @@ use Rattle.letters.specs.Format.{to_len}
 
 -- depot x is in the set of i alone, and in the set with i
 pub mark_tells : (i x : ℕ) → ((x ≡ i) × (has (mark i) x ≡ true)) ⊎ ((x ≡ i → ⊥) × (has (mark i) x ≡ false))
-mark_tells i x =
-    elim (cases_eq i x) [
-      | inl e ↦ inl (sym e, sets.has_mark i x ∙ eq-eqb i x e)
-      | inr e ↦ inr ((λ q. e (sym q)), sets.has_mark i x ∙ ne_eqb i x e)
-    ]
-
-or_true : (b : Bool) → (b || true) ≡ true
-or_true true = refl
-or_true false = refl
-
-or_false : (b : Bool) → (b || false) ≡ b
-or_false true = refl
-or_false false = refl
+mark_tells i x = let e = sets.has_mark i x in grind (arith, nat_tests)
 
 pub add_tells : (set i x : ℕ) →
     ((x ≡ i) × (has (add set i) x ≡ true)) ⊎ ((x ≡ i → ⊥) × (has (add set i) x ≡ has set x))
 add_tells set i x =
-    let e = sets.has_add set i x in
-    elim (cases_eq i x) [
-      | inl q ↦ inl (sym q, e ∙ (ap (λ b. has set x || b) (eq-eqb i x q) ∙ or_true (has set x)))
-      | inr q ↦ inr ((λ u. q (sym u)), e ∙ (ap (λ b. has set x || b) (ne_eqb i x q) ∙ or_false (has set x)))
-    ]
+    let e = sets.has_add set i x in grind (arith, nat_tests)
 
 pub of_mark : (i x : ℕ) → has (mark i) x ≡ true → x ≡ i
 of_mark i x h = elim (mark_tells i x) [ inl u ↦ u.0 | inr u ↦ absurd (both_ways _ u.1 h) ]

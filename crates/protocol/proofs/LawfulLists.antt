@@ -2,7 +2,7 @@
 -- on it, and of what a letter of each kind carries.
 use Rattle.std.proofs.Common.{◌≡◌, ℕ, ◌<◌, ◌≤◌, true, false, cond, eqb, ltb, List, [], ◌∷◌, length, refl, ap, inl, inr, arith}
 use Rattle.std.specs.List.{AllByRecursion}
-use Rattle.std.proofs.lemmas.Bool.{eqb-true, ltb-true, and_parts, and_from, or_cases, cases_Bool, both_ways, eq-eqb, false≢true, cond-true, cond_both, or_left, or_right, cond-false, ne_eqb}
+use Rattle.std.proofs.lemmas.Bool.{false_from_ne_true, eqb-true, ltb-true, and_parts, and_from, or_cases, both_ways, eq-eqb, false≢true, cond-true, cond_both, or_left, or_right, cond-false, ne_eqb}
 use Rattle.entries.specs.declared.lists.Entry.{Entry}
 use Rattle.letters.specs.declared.letter.Kind.{Kind}
 use Rattle.letters.specs.declared.letter.Kind.TheVariants as kinds
@@ -96,11 +96,7 @@ alone d (e ∷ ℓ) h = let (a, b) = and_parts (has (mark d) e.depot) (every ℓ
     let c = cond-true (eqb e.depot d) 0 e.shelf (eq-eqb _ d q) in omega arith
 
 pub not_alone : (d wish : ℕ) (ℓ : List Entry) → 1 ≤ wish → wish ≤ elsewhere d ℓ → every ℓ (has (mark d)) ≡ false
-not_alone d wish ℓ h k = elim (cases_Bool (every ℓ (has (mark d)))) [
-  | inl e ↦ absurd (let q = alone d ℓ e in
-      omega arith)
-  | inr e ↦ e
-]
+not_alone d wish ℓ h k = false_from_ne_true _ (λ e. let q = alone d ℓ e in omega arith)
 
 -- what is begun of depots below n is begun of depots below any greater number
 begun_wider : (n m : ℕ) (ℓ : List Entry) → n ≤ m → Begun n ℓ → Begun m ℓ

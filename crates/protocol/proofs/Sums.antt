@@ -35,17 +35,6 @@ unfolding sum_to
 sum_none zero f e = refl
 sum_none (suc N) f e = let q = e N (omega arith) in let r = sum_none N f (λ x l. e x (omega arith)) in omega arith
 
--- a function that is 0 but at d
-pub sum_at : (N d : ℕ) (f : ℕ → ℕ) → d < N → ((x : ℕ) → (x ≡ d → ⊥) → f x ≡ 0) → sum_to N f ≡ f d
-unfolding sum_to
-sum_at zero d f l e = absurd (omega arith)
-sum_at (suc N) d f l e = elim (cases_eq d N) [
-  | inl q ↦ (let r = sum_none N f (λ x k. e x (omega arith)) in
-      let u = ap f q in omega arith)
-  | inr q ↦ (let r = sum_at N d f (omega arith) e in
-      let u = e N (omega arith) in omega arith)
-]
-
 pub sum_same : (N : ℕ) (f g : ℕ → ℕ) → ((x : ℕ) → x < N → f x ≡ g x) → sum_to N f ≡ sum_to N g
 unfolding sum_to
 sum_same zero f g h = refl
@@ -61,6 +50,11 @@ sum_one (suc N) d f g l e = elim (cases_eq d N) [
   | inr q ↦ (let r = sum_one N d f g (omega arith) e in
       let u = e N (omega arith) in omega arith)
 ]
+
+-- a function that is 0 but at d
+sum_at : (N d : ℕ) (f : ℕ → ℕ) → d < N → ((x : ℕ) → (x ≡ d → ⊥) → f x ≡ 0) → sum_to N f ≡ f d
+sum_at N d f l e =
+    let q = sum_one N d f (λ _. 0) l e in let r = sum_none N (λ _. 0) (λ _ _. refl) in omega arith
 
 -- what a rising list says
 pub rising_on : (N b : ℕ) (ℓ : List Entry) (y : ℕ) → Rising N b ℓ → on ℓ y ≡ true → (b ≤ y) × (y < N)

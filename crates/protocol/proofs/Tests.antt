@@ -1,6 +1,8 @@
 -- Functions changed at a place, and tests over numbers below a limit and over the depots of a list, told as cases.
 use Rattle.std.proofs.Common.{◌≡◌, ℕ, zero, suc, ◌<◌, Bool, true, false, cond, ◌&&◌, eqb, ◌⊎◌, List, [], ◌∷◌, sym, refl, subst, inl, inr, arith}
-use Rattle.std.proofs.lemmas.Bool.{eqb-true, eqb-false, eq-eqb, cond_both, and_parts, and_cases, or_cases, or_parts, or_left, or_right, cases_eq, cases_Bool, and_from, both_ways, false≢true}
+use Rattle.std.specs.Bool.{Decides}
+use Rattle.std.proofs.lemmas.Bool.Decides.{Decides-below_or}
+use Rattle.std.proofs.lemmas.Bool.{false_from_ne_true, eqb-true, eqb-false, eq-eqb, cond_both, and_parts, and_cases, or_cases, or_left, or_right, cases_eq, and_from, both_ways}
 use Rattle.entries.specs.declared.lists.Entry.{Entry}
 use Rattle.entries.specs.Lists.{on}
 use Rattle.protocol.specs.Listing.{every}
@@ -34,28 +36,18 @@ all_every [] p h = refl
 all_every (e ∷ ℓ) p h = and_from _ _ (h e.depot (or_left _ _ (eq-eqb e.depot e.depot refl)))
     (all_every ℓ p (λ y q. h y (or_right _ _ q)))
 
-pub any_none : (n : ℕ) (p : ℕ → Bool) (k : ℕ) → any n p ≡ false → k < n → p k ≡ false
+any_tells : (n : ℕ) (p : ℕ → Bool) → Decides (any n p) ((k : ℕ) × (k < n) × (p k ≡ true))
 unfolding any
-any_none zero p k h l = absurd (omega arith)
-any_none (suc n) p k h l =
-    let q = or_parts (p n) (any n p) h in
-    elim (cases_eq k n) [ inl e ↦ rw e q.0 | inr e ↦ any_none n p k q.1 (omega arith) ]
+any_tells n p = Decides-below_or p (λ k. p k ≡ true) (λ n. any n p) (λ k. (λ e. e, λ e. e)) refl (λ _. refl) n
 
 pub any_one : (n : ℕ) (p : ℕ → Bool) → any n p ≡ true → (k : ℕ) × (k < n) × (p k ≡ true)
-unfolding any
-any_one zero p h = absurd (false≢true h)
-any_one (suc n) p h = elim (or_cases (p n) (any n p) h) [
-  | inl q ↦ (n, omega arith, q)
-  | inr q ↦ (let (k, l, e) = any_one n p q in (k, omega arith, e))
-]
+any_one n p = (any_tells n p).0
 
 pub one_any : (n : ℕ) (p : ℕ → Bool) (k : ℕ) → k < n → p k ≡ true → any n p ≡ true
-unfolding any
-one_any zero p k l h = absurd (omega arith)
-one_any (suc n) p k l h = elim (cases_eq k n) [
-  | inl e ↦ or_left _ _ (subst (λ u. p u ≡ true) e h)
-  | inr e ↦ or_right _ _ (one_any n p k (omega arith) h)
-]
+one_any n p k l h = (any_tells n p).1 (k, l, h)
+
+pub any_none : (n : ℕ) (p : ℕ → Bool) (k : ℕ) → any n p ≡ false → k < n → p k ≡ false
+any_none n p k h l = false_from_ne_true (p k) (λ e. both_ways _ h (one_any n p k l e))
 
 -- what is found passes, if anything does
 pub found_one : (n : ℕ) (p : ℕ → Bool) (k : ℕ) → k < n → p k ≡ true → p (found n p) ≡ true
@@ -76,8 +68,7 @@ every_less (e ∷ ℓ) p q f h = let (a, b) = and_parts _ _ h in and_from _ _ (f
 
 pub not_every : (ℓ : List Entry) (p q : ℕ → Bool) → ((y : ℕ) → p y ≡ true → q y ≡ true) →
     every ℓ q ≡ false → every ℓ p ≡ false
-not_every ℓ p q f h = elim (cases_Bool (every ℓ p))
-    [ inl e ↦ absurd (both_ways _ h (every_less ℓ p q f e)) | inr e ↦ e ]
+not_every ℓ p q f h = false_from_ne_true _ (λ e. both_ways _ h (every_less ℓ p q f e))
 
 -- the other of two tests fails, where they do not both hold
 pub other_way : (b c : Bool) → b ≡ true → (b && c) ≡ false → c ≡ false

@@ -8,8 +8,8 @@ use Rattle.entries.proofs.Width.{as_many_marks}
 use Rattle.policies.specs.Shares.{beside, wishes_first}
 use Rattle.policies.specs.Granting.{wishes_lawful}
 use Rattle.protocol.specs.Calls.{accepts, ends_at, Call}
-use Rattle.protocol.specs.Examples.{by_wishes, entry, three, all, letter_of, proposal, agreeing, withdrawing, settling}
-use Rattle.protocol.specs.Examples.{dropping, unlisted, asking, queried, Worked}
+use Rattle.protocol.specs.Examples.{by_wishes, entry, three, all, letter_of, proposal, agreeing, withdrawing}
+use Rattle.protocol.specs.Examples.{asking, Worked}
 use Rattle.protocol.specs.Listing.{every, elsewhere, same}
 use Rattle.protocol.specs.Opening.{sum_to}
 use Rattle.protocol.specs.Outcome.{mail, refuses}
@@ -30,58 +30,6 @@ more : (xs ys : List (ℕ × Call)) (w : Stage) → EachAllowed by_wishes three 
     EachAllowed by_wishes three (carried_out by_wishes three w xs) ys → EachAllowed by_wishes three w (xs ++ ys)
 more [] ys w h k = k
 more (x ∷ xs) ys w h k = (h.0, more xs ys (called by_wishes three w x.0 x.1) h.1 k)
-
--- every letter is given after it was sent
-proposal_allowed : EachAllowed by_wishes three (just_opened three) proposal
-unfolding limits.max_depots has mark union add less everyone on entry_of every names elsewhere insert same beside
-    wishes_first upd pick any found engages engaged leader fits mail outside issue give_back set_wish lead propose
-    withdraw_in query_in restart_in kind_of concluded tells_end asks strikes newer step_for take accepts ends_at among stands
-    bound_to_standing due sum_to
-proposal_allowed =
-    tt ⨾ tt ⨾ tt ⨾ refl ⨾ refl ⨾ (refl, inl (letter_of 1 0 6 [], inl refl, refl))
-    ⨾ (refl, inl (letter_of 1 0 6 [], inr (inl refl), refl))
-    ⨾ (refl, inl (letter_of 2 1 1 (entry 1 5 0 ∷ []), inr (inl refl), refl))
-    ⨾ (refl, inl (letter_of 2 2 1 (entry 2 4 0 ∷ []), inl refl, refl)) ⨾ refl ⨾ tt
-
-settling_allowed : EachAllowed by_wishes three (just_opened three) settling
-unfolding limits.max_depots has mark union add less everyone on entry_of every names elsewhere insert same beside
-    wishes_first upd pick any found engages engaged leader fits mail outside issue give_back set_wish lead propose
-    withdraw_in query_in restart_in kind_of concluded tells_end asks strikes newer step_for take accepts ends_at among stands
-    bound_to_standing due sum_to
-settling_allowed =
-    more proposal agreeing (just_opened three) proposal_allowed
-    ((refl, inl (letter_of 3 0 6 all, inl refl, refl)) ⨾ (refl, inl (letter_of 3 0 6 all, inr (inl refl), refl))
-    ⨾ refl ⨾ (refl, inl (letter_of 8 1 5 [], inl refl, refl)) ⨾ (refl, inl (letter_of 4 2 2 [], inl refl, refl))
-    ⨾ tt)
-
-dropping_allowed : EachAllowed by_wishes three (just_opened three) dropping
-unfolding limits.max_depots has mark union add less everyone on entry_of every names elsewhere insert same beside
-    wishes_first upd pick any found engages engaged leader fits mail outside issue give_back set_wish lead propose
-    withdraw_in query_in restart_in kind_of concluded tells_end asks strikes newer step_for take accepts ends_at among stands
-    bound_to_standing due sum_to
-dropping_allowed =
-    more proposal withdrawing (just_opened three) proposal_allowed
-    (refl ⨾ (refl, inl (letter_of 5 1 1 [], inl refl, refl)) ⨾ tt)
-
-unlisted_allowed : EachAllowed by_wishes three (just_opened three) unlisted
-unfolding limits.max_depots has mark union add less everyone on entry_of every names elsewhere insert same beside
-    wishes_first upd pick any found engages engaged leader fits mail outside issue give_back set_wish lead propose
-    withdraw_in query_in restart_in kind_of concluded tells_end asks strikes newer step_for take accepts ends_at among stands
-    bound_to_standing due sum_to
-unlisted_allowed =
-    tt ⨾ tt ⨾ tt ⨾ refl ⨾ refl ⨾ (refl, inl (letter_of 1 0 6 [], inl refl, refl))
-    ⨾ (refl, inl (letter_of 1 0 6 [], inr (inl refl), refl))
-    ⨾ (refl, inl (letter_of 2 1 1 (entry 1 5 0 ∷ []), inr (inl refl), refl)) ⨾ refl ⨾ refl
-    ⨾ (refl, inl (letter_of 5 2 1 [], inl refl, refl)) ⨾ tt
-
-queried_allowed : EachAllowed by_wishes three (just_opened three) queried
-unfolding limits.max_depots has mark union add less everyone on entry_of every names elsewhere insert same beside
-    wishes_first upd pick any found engages engaged leader fits mail outside issue give_back set_wish lead propose
-    withdraw_in query_in restart_in kind_of concluded tells_end asks strikes newer step_for take accepts ends_at among stands
-    bound_to_standing due sum_to
-queried_allowed =
-    more proposal asking (just_opened three) proposal_allowed
-    ((refl, inl (letter_of 3 0 6 all, inl refl, refl)), (refl, ((refl, inl (letter_of 8 1 5 [], inl refl, refl)), tt)))
 
 -- a shelf of 5 has not 1,000,000 pieces
 too_many_issued : (a : Site) (s : State) → s.shelf ≡ 5 → engaged a s ≡ false →
@@ -108,20 +56,41 @@ worked =
       remainder = refl;
       too_many = too_many_issued;
       outside = λ a s. refl;
-      settling_allowed = settling_allowed;
+      settling_allowed =
+          more proposal agreeing (just_opened three) proposal_allowed
+          ((refl, inl (letter_of 3 0 6 all, inl refl, refl)) ⨾ (refl, inl (letter_of 3 0 6 all, inr (inl refl), refl))
+          ⨾ refl ⨾ (refl, inl (letter_of 8 1 5 [], inl refl, refl)) ⨾ (refl, inl (letter_of 4 2 2 [], inl refl, refl))
+          ⨾ tt);
       shares = refl;
       settled = refl;
       shelves = refl;
       dues = refl;
-      dropping_allowed = dropping_allowed;
+      dropping_allowed =
+          more proposal withdrawing (just_opened three) proposal_allowed
+          (refl ⨾ (refl, inl (letter_of 5 1 1 [], inl refl, refl)) ⨾ tt);
       dropped = refl;
       dues_dropped = refl;
-      unlisted_allowed = unlisted_allowed;
+      unlisted_allowed =
+          tt ⨾ tt ⨾ tt ⨾ refl ⨾ refl ⨾ (refl, inl (letter_of 1 0 6 [], inl refl, refl))
+          ⨾ (refl, inl (letter_of 1 0 6 [], inr (inl refl), refl))
+          ⨾ (refl, inl (letter_of 2 1 1 (entry 1 5 0 ∷ []), inr (inl refl), refl)) ⨾ refl ⨾ refl
+          ⨾ (refl, inl (letter_of 5 2 1 [], inl refl, refl)) ⨾ tt;
       still_bound = refl;
-      queried_allowed = queried_allowed;
+      queried_allowed =
+          more proposal asking (just_opened three) proposal_allowed
+          ((refl, inl (letter_of 3 0 6 all, inl refl, refl)) ⨾ refl
+          ⨾ (refl, inl (letter_of 8 1 5 [], inl refl, refl)) ⨾ tt);
       asked_by_query = refl;
       asked_again = refl;
       owing_still = refl;
       restarted = refl;
       returned = refl;
     }
+  where
+    -- every letter is given after it was sent
+    proposal_allowed : EachAllowed by_wishes three (just_opened three) proposal
+    proposal_allowed =
+        tt ⨾ tt ⨾ tt ⨾ refl ⨾ refl ⨾ (refl, inl (letter_of 1 0 6 [], inl refl, refl))
+        ⨾ (refl, inl (letter_of 1 0 6 [], inr (inl refl), refl))
+        ⨾ (refl, inl (letter_of 2 1 1 (entry 1 5 0 ∷ []), inr (inl refl), refl))
+        ⨾ (refl, inl (letter_of 2 2 1 (entry 2 4 0 ∷ []), inl refl, refl)) ⨾ refl ⨾ tt
