@@ -75,7 +75,7 @@ module _ {P : Policy} (lawful : LawfulPolicy P) {o : Opening} where
               ∙ (t.accepted x L n ∙ ap (λ u. cond (has_accepted (u.past x L n))
               (u.lists L n ∷ []) []) (sym same_history));
           balanced = (let e = ap (λ u. sum_to o.n (dueBy o.n P u)) same_history in
-              let b = t.balanced in omega arith);
+              omega arith);
         }
       where
         same_history : history (then s d Hand a) ≡ history s
@@ -96,7 +96,7 @@ module _ {P : Policy} (lawful : LawfulPolicy P) {o : Opening} where
           settled = ended_next k.low h.safe does 4 (omega arith) w.settled t.settled;
           dropped = ended_next k.low h.safe does 5 (omega arith) w.dropped t.dropped;
           accepted = accepted_next k.low h.safe does w.accepted t.accepted;
-          balanced = (let e = balance k.low h.safe lawful does in let b = t.balanced in omega arith);
+          balanced = (let e = balance k.low h.safe lawful does in omega arith);
         }
 
   module _ (ok : LawfulOpening o) where

@@ -59,7 +59,7 @@ module _ (P : Policy) (lawful : LawfulPolicy P) (a : Site) (s₀ : State) (law�
   bare t L to law e h c k = record { law = law; mails = plain a t law to L h e c k }
 
   mark_ok : (x : ℕ) → x < a.n → Below max_depots (mark x)
-  mark_ok x l = mark_below max_depots x (let q = law₀.site.size in omega arith)
+  mark_ok x l = mark_below max_depots x (omega arith)
 
   rest_below : Below max_depots (rest a)
   rest_below = less_below max_depots _ _ (everyone_below a.n max_depots law₀.site.size)
@@ -192,7 +192,7 @@ module _ (P : Policy) (lawful : LawfulPolicy P) (a : Site) (s₀ : State) (law�
     join_kept f =
         by Go (λ e. let q = eqb-true m.sender L e in
         let l = joined_law a s law L m.number f low (λ z. y-else (q ∙ z)) ok.number_low
-        (let h = ok.number_fits in omega arith) in
+        (omega arith) in
         record {
           law = l;
           mails = offering a s _ law l (mark L) L to_leader_lem (row_set s L m.number 1 (omega arith));
@@ -209,7 +209,7 @@ module _ (P : Policy) (lawful : LawfulPolicy P) (a : Site) (s₀ : State) (law�
         (λ f. rw (by_kind_lem (kind_of m.kind) _ sit)
         (kind_kept (kind_of m.kind) (lawful_right m ok)
         (λ z. let h = (law.rows.row L).number_none z in let j = ltb-false _ _ f in
-        let i = ok.number_low in omega arith)))
+        omega arith)))
 
   pub take_kept : (m : Contents) → Lawful m → Kept (take P a s₀ m)
   unfolding take
@@ -232,8 +232,7 @@ module _ (P : Policy) (lawful : LawfulPolicy P) (a : Site) (s₀ : State) (law�
   issue_kept n =
       by Kept denied
       (λ _. by Kept denied (λ f. by Kept denied
-      (λ _. silent (idle_stock a s₀ law₀ (s₀.shelf - n) s₀.wish f (let p = law₀.stock.stock in
-      omega arith) law₀.stock.wish))))
+      (λ _. silent (idle_stock a s₀ law₀ (s₀.shelf - n) s₀.wish f (omega arith) law₀.stock.wish))))
 
   pub return_kept : (n : ℕ) → Kept (give_back a s₀ n)
   unfolding give_back
@@ -323,7 +322,7 @@ module _ (P : Policy) (lawful : LawfulPolicy P) (a : Site) (s₀ : State) (law�
       denied)))
     where
       owing_below : Below max_depots s₀.owing
-      owing_below y h = let p = (law₀.owing.owing y h).0 in let q = law₀.site.size in omega arith
+      owing_below y h = let p = (law₀.owing.owing y h).0 in omega arith
 
       row : (n : ℕ) → eqb (s₀.rows a.depot).standing n ≡ true → (s₀.rows a.depot).standing ≡ n
       row n e = eqb-true _ n e

@@ -195,8 +195,7 @@ module _ (a : Site) (s : State) (law : Law a s) where
           owing = law.owing.owing;
           owes = owes_on L k (λ q u. (
             omega arith,
-            λ z. let v = f z in
-                let x = ap (λ y. (s.rows y).standing) q in omega arith,
+            λ z. let x = ap (λ y. (s.rows y).standing) q in omega arith,
           ));
         })
 
@@ -207,9 +206,6 @@ module _ (a : Site) (s : State) (law : Law a s) where
     settled_law P lawful es l =
         ended_with 4 (share_of P.share es a.depot) 0 (omega arith) (omega arith) (λ q. absurd (omega arith))
         (let p = share_within es (P.share es) a.depot in
-        let q = lawful.shares.all es l in
-        let r = l.sum_within in
-        let t = law.stock.tray in
         omega arith)
         (omega arith)
 

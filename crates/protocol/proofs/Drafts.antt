@@ -83,8 +83,6 @@ every_lawful d (allotted {d = c} h depot pieces _ e) = allot_lawful c (every_law
 pub opens_whole : (d : Draft) → Drafted d → OpensWhole d
 opens_whole d h =
     let l = every_lawful d h in
-    let e = l.some in
     let q = sum_set d.n 0 (d.shares 0 + remains d) d.shares (omega arith) in
-    let w = l.within in
     let s : total (opened d) ≡ d.total = omega arith in
-    record { lawful = record { some = l.some; few = l.few; limit = (let m = l.limit in omega arith) }; whole = s }
+    record { lawful = record { some = l.some; few = l.few; limit = (omega arith) }; whole = s }

@@ -48,7 +48,7 @@ module _ {N : ℕ} {w : History} {d : ℕ} (d<N : d < N) (g : Safe N w) {P : Pol
     NoNew = (x L n : ℕ) → HasAccepted (p' x L n) → HasAccepted (p x L n)
 
     same_past : s.rows ≡ (w.at d).rows → (x L n : ℕ) → p' x L n ≡ p x L n
-    same_past e x L n = let r = ap (λ u. u L) e in let q = (g.own d).now L in grind (arith, nat_tests)
+    same_past e x L n = grind (arith, nat_tests)
 
     same_new : s.rows ≡ (w.at d).rows → NoNew
     same_new e x L n a = rw (same_past e x L n) at a
@@ -56,7 +56,7 @@ module _ {N : ℕ} {w : History} {d : ℕ} (d<N : d < N) (g : Safe N w) {P : Pol
     -- one point of the past moves
     point : (M m k : ℕ) → s.rows ≡ upd (w.at d).rows M (record { number = m; standing = k }) → (x L n : ℕ) →
         ((x ≡ d) × (L ≡ M) × (n ≡ m) × (p' x L n ≡ k)) ⊎ (p' x L n ≡ p x L n)
-    point M m k e x L n = let r = ap (λ u. u L) e in let q = (g.own d).now L in grind (arith, nat_tests, upd_tells)
+    point M m k e x L n = let r = ap (λ u. u L) e in grind (arith, nat_tests, upd_tells)
 
     set_new : (M m k : ℕ) → s.rows ≡ upd (w.at d).rows M (record { number = m; standing = k }) →
         (HasAccepted k → HasAccepted (p d M m)) → NoNew
@@ -113,11 +113,10 @@ module _ {N : ℕ} {w : History} {d : ℕ} (d<N : d < N) (g : Safe N w) {P : Pol
         row_n = let r = ap (λ u. u M) e in grind (arith, upd_tells)
 
         bound_at : (L : ℕ) → (s.rows L).standing ≡ 2 → L ≡ M
-        bound_at L a = let r = ap (λ u. u L) e in
-            elim (upd_tells (w.at d).rows M (record { number = number w d M; standing = 2 }) L) [
-              | inl u ↦ u.0
-              | inr u ↦ alone M (omega arith) L (cc)
-            ]
+        bound_at L a = elim (upd_tells (w.at d).rows M (record { number = number w d M; standing = 2 }) L) [
+          | inl u ↦ u.0
+          | inr u ↦ alone M (omega arith) L (cc)
+        ]
 
     kept : s.rows ≡ (w.at d).rows → s.list ≡ (w.at d).list → s.shelf ≡ (w.at d).shelf →
         s.tray + i ≡ (w.at d).tray + j → DueMove s i j
@@ -345,5 +344,4 @@ module _ {N : ℕ} {w : History} {d : ℕ} (d<N : d < N) (g : Safe N w) {P : Pol
                 λ x f m (L, g', h'). nope (λ y v. subst (λ z. HasAccepted (q y M z)) m
                 (subst (λ z. HasAccepted (q y z (number w x z))) (g.single x L M (omega arith) (omega arith))
                 (h' y (ap (λ z. on z y) (bound_list M k ℓ e b me mine c x f m) ∙ v)))) in
-                by_one (λ x v. unmoved x v (stood M k ℓ e b me mine c x (off x))) (let v = nobody nope in
-                let x = due_no N P p (w.at d) d (loose M b) in omega arith)
+                by_one (λ x v. unmoved x v (stood M k ℓ e b me mine c x (off x))) (let x = due_no N P p (w.at d) d (loose M b) in omega arith)

@@ -272,7 +272,7 @@ module _ {N : ℕ} (P : Policy) {w : History} {d : ℕ} (z : Type 0) (ℓ₀ : L
       subst Go' (sym (by_kind_lem (kind_of m.kind) _ sit))
       (kind_explained _ (struck_explained m t (λ _. e)) (strikes a m) m.leader m.sender m.number m.entries
       (kind_of m.kind) e₀
-      (λ z. let h = (law.rows.row m.leader).number_none z in let i = ok.number_low in omega arith)
+      (λ z. let h = (law.rows.row m.leader).number_none z in omega arith)
       (lawful_right m ok) (rw e at t)))
     where
       s₂ : State

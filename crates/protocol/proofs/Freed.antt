@@ -220,7 +220,6 @@ module _ {P : Policy} (lawful : LawfulPolicy P) {o : Opening} (ok : LawfulOpenin
   pub way_out : {w : Stage} → Series P o (just_opened o) w → WayOut P o w
   way_out {w = v} r x L n m b a f w s sp all_back u s' c =
       let h = invariant lawful ok r in
-      let e = b.accepted in
       let q : leader (site P o x) (v.at x) ≡ L = (calls_kept P lawful (site P o x) (v.at x)
       (h.law x (h.low x a))).found L (omega arith) in
       free r x m a f s sp all_back u s'

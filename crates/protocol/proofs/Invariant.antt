@@ -43,10 +43,10 @@ same_next {w = w} g d = ap (λ u. mk u (next w d (w.at d) none).past (next w d (
     e1 = fun_ext (λ x. elim (upd_tells w.at d (w.at d) x) [ inl u ↦ u.1 ∙ ap w.at (sym u.0) | inr u ↦ u.1 ])
 
     e2 : (next w d (w.at d) none).past ≡ w.past
-    e2 = fun_ext (λ x. fun_ext (λ L. fun_ext (λ n. let q = (g.own d).now L in grind (arith, nat_tests))))
+    e2 = fun_ext (λ x. fun_ext (λ L. fun_ext (λ n. grind (arith, nat_tests))))
 
     e3 : (next w d (w.at d) none).lists ≡ w.lists
-    e3 = fun_ext (λ L. fun_ext (λ n. let q = g.list d d in grind (arith, nat_tests)))
+    e3 = fun_ext (λ L. fun_ext (λ n. grind (arith, nat_tests)))
 
 -- Hand leaves what is there: a record not handed out is as Hand fills it
 pub record Invariant {P : Policy} {o : Opening} {w : Stage} (s : Series P o (just_opened o) w) : Type 0 where
@@ -139,7 +139,7 @@ fresh_law : (P : Policy) → LawfulPolicy P → (o : Opening) → LawfulOpening 
     Law (site P o x) (fresh (o.shares x))
 fresh_law P lawful o ok x l = fresh_lawful (site P o x) (o.shares x)
     (record { depot = l; size = ok.few; code_low = lawful.coded.0; code_high = lawful.coded.1 })
-    (let p = part o.n x o.shares l in let q = ok.limit in omega arith)
+    (let p = part o.n x o.shares l in omega arith)
 
 invariant_start : {P : Policy} → LawfulPolicy P → {o : Opening} → LawfulOpening o → Invariant {P = P} {o = o} start
 invariant_start {P} lawful {o} ok =

@@ -35,7 +35,7 @@ module _ (a : Site) (s : State) (law : Law a s) (to L : ℕ) (high : Below max_d
         kind_high = (kind_numbers k).1;
         sender_below = (let p = law.site.depot in let q = law.site.size in omega arith);
         to_fits = set_fits to high;
-        leader_below = (let p = (law.rows.row L).low on_Row in let q = law.site.size in omega arith);
+        leader_below = (let p = (law.rows.row L).low on_Row in omega arith);
         code_low = law.site.code_low;
         code_high = (let p = law.site.code_high in omega arith);
         number_low = (law.rows.row L).number_some on_Row;
@@ -63,9 +63,9 @@ offering a s t law law' to L high row =
       own = (refl, tt);
       lawful = (
         record {
-          depot_below = (let p = law.site.depot in let q = law.site.size in omega arith);
+          depot_below = (omega arith);
           wish_within = law.stock.wish;
-          shelf_within = (let p = law.stock.stock in omega arith);
+          shelf_within = (omega arith);
         },
         tt,
       );

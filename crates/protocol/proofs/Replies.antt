@@ -72,8 +72,6 @@ module _ {N : ℕ} {w : History} (g : Safe N w) (l : LeadersKnow N w) (x L n : �
       × (standing w y L ≡ 1 → y ≡ L → ⊥)
   stands y h =
       let e : w.past y L n ≡ standing w y L = ap (w.past y L) (sym (pinned y h)) ∙ (g.own y).now L in
-      let a = (l.offered L n y led_x h).0 in
-      let m = g.most y L n in
       let c = led_x in
       (omega arith, omega arith, λ f q. let r = ap (λ u. w.past u L n) q in omega arith)
 

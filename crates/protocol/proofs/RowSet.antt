@@ -72,7 +72,7 @@ module _ (a : Site) (s t : State) (L m k : ℕ) (law : Law a s) (h : Turned a s 
           low = λ _. subst (λ x. x < a.n) (sym e) h.low;
           most = h.most;
           number_high = h.number_high;
-          number_none = λ z. absurd (let p = h.some in omega arith);
+          number_none = λ z. absurd (omega arith);
           number_some = λ _. h.number_some;
         })
         | inr (e, q) ↦ subst (LawfulRow a.n M) (sym q) (law.rows.row M)

@@ -86,7 +86,7 @@ module _ {N : ℕ} {w : History} {d : ℕ} (g : Safe N w) {s : State} (mv : RowM
   turn L n = go mv
     where
       go : RowMove N w d s → StandingMove w d L n (w.past d L n) (w'.past d L n)
-      go (still e f) = let q = (g.own d).now L in let r = ap (λ u. u L) e in same (grind (arith, nat_tests))
+      go (still e f) = let q = (g.own d).now L in same (grind (arith, nat_tests))
       go (moves M m k pos e lt up only t f) =
           elim (at_or L n) [
             | inl (a, b, c) ↦ subst (λ u. StandingMove w d L n (w.past d L n) u) (sym c)
@@ -96,7 +96,7 @@ module _ {N : ℕ} {w : History} {d : ℕ} (g : Safe N w) {s : State} (mv : RowM
         where
           at_or : (L n : ℕ) → ((L ≡ M) × (n ≡ m) × (w'.past d L n ≡ k)) ⊎ (w'.past d L n ≡ w.past d L n)
           at_or L n = let q : s.rows L ≡ upd (w.at d).rows M (record { number = m; standing = k }) L =
-              ap (λ u. u L) e in let r = (g.own d).now L in grind (arith, nat_tests, upd_tells)
+              ap (λ u. u L) e in grind (arith, nat_tests, upd_tells)
 
   pub else_past : (x : ℕ) → (x ≡ d → ⊥) → w'.past x ≡ w.past x
   else_past x f = fun_ext (λ L. fun_ext (λ n. grind (arith, nat_tests)))
@@ -127,21 +127,19 @@ module _ {N : ℕ} {w : History} {d : ℕ} (g : Safe N w) {s : State} (mv : RowM
   pub engaged : (L : ℕ) → Engages (standing w d L) → (s.rows L).number ≡ number w d L
   engaged L b = elim mv [
     | still e f ↦ ap (λ u. (u L).number) e
-    | moves M m k pos e lt up only t f ↦ let r = ap (λ u. u L) e in let o = only L b in grind (arith, upd_tells)
+    | moves M m k pos e lt up only t f ↦ let r = ap (λ u. u L) e in grind (arith, upd_tells)
   ]
 
   pub one : (L M : ℕ) → Engages (s.rows L).standing → Engages (s.rows M).standing → L ≡ M
   one L M a b = elim mv [
     | still e f ↦ g.single d L M (rw (ap (λ u. (u L).standing) e) at a) (rw (ap (λ u. (u M).standing) e) at b)
-    | moves O m k pos e lt up only t f ↦ let r = ap (λ u. u L) e in let r' = ap (λ u. u M) e in let p = only L in
-        let p' = only M in grind (arith, upd_tells)
+    | moves O m k pos e lt up only t f ↦ let r = ap (λ u. u L) e in let r' = ap (λ u. u M) e in grind (arith, upd_tells)
   ]
 
   pub low : (L : ℕ) → 1 ≤ (s.rows L).standing → L < N
   low L a = elim mv [
     | still e f ↦ g.small d L (rw (ap (λ u. (u L).standing) e) at a)
-    | moves O m k pos e lt up only t f ↦ let r = ap (λ u. u L) e in let q = g.small d L in
-        grind (arith, upd_tells)
+    | moves O m k pos e lt up only t f ↦ let r = ap (λ u. u L) e in grind (arith, upd_tells)
   ]
 
   live_d : (L n : ℕ) → Engages (w'.past d L n) → (s.rows L).number ≡ n
@@ -158,7 +156,7 @@ module _ {N : ℕ} {w : History} {d : ℕ} (g : Safe N w) {s : State} (mv : RowM
   own_d =
       record {
         now = now_d;
-        later = λ L n h. let r = rise L in let q = (g.own d).later L n (omega arith) in grind (arith, nat_tests);
+        later = λ L n h. let r = rise L in grind (arith, nat_tests);
         live = live_d;
       }
 

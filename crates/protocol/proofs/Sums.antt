@@ -27,13 +27,12 @@ pub sum_both : (N : ℕ) (f g h k : ℕ → ℕ) → ((x : ℕ) → x < N → f 
     sum_to N f + sum_to N h ≡ sum_to N g + sum_to N k
 unfolding sum_to
 sum_both zero f g h k e = refl
-sum_both (suc N) f g h k e = let q = e N (omega arith) in
-    let r = sum_both N f g h k (λ x l. e x (omega arith)) in omega arith
+sum_both (suc N) f g h k e = let r = sum_both N f g h k (λ x l. e x (omega arith)) in omega arith
 
 pub sum_none : (N : ℕ) (f : ℕ → ℕ) → ((x : ℕ) → x < N → f x ≡ 0) → sum_to N f ≡ 0
 unfolding sum_to
 sum_none zero f e = refl
-sum_none (suc N) f e = let q = e N (omega arith) in let r = sum_none N f (λ x l. e x (omega arith)) in omega arith
+sum_none (suc N) f e = let r = sum_none N f (λ x l. e x (omega arith)) in omega arith
 
 pub sum_same : (N : ℕ) (f g : ℕ → ℕ) → ((x : ℕ) → x < N → f x ≡ g x) → sum_to N f ≡ sum_to N g
 unfolding sum_to
@@ -48,7 +47,7 @@ sum_one (suc N) d f g l e = elim (cases_eq d N) [
   | inl q ↦ (let r = sum_same N f g (λ x k. e x (omega arith)) in
       let u = ap f q in let v = ap g q in omega arith)
   | inr q ↦ (let r = sum_one N d f g (omega arith) e in
-      let u = e N (omega arith) in omega arith)
+      omega arith)
 ]
 
 -- a function that is 0 but at d

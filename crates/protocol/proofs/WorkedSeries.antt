@@ -4,7 +4,6 @@ use Rattle.letters.specs.Reading.{handover}
 use Rattle.entries.specs.Limits as limits
 use Rattle.entries.specs.Sets.{has, mark, union, add, less, everyone}
 use Rattle.entries.specs.Lists.{on, entry_of, names, insert}
-use Rattle.entries.proofs.Width.{as_many_marks}
 use Rattle.policies.specs.Shares.{beside, wishes_first}
 use Rattle.policies.specs.Granting.{wishes_lawful}
 use Rattle.protocol.specs.Calls.{accepts, ends_at, Call}
@@ -45,7 +44,7 @@ unfolding limits.max_depots has mark union add less everyone on entry_of every n
 worked =
     record {
       policy = record { coded = (omega arith, omega arith); shares = wishes_lawful };
-      opening = record { some = omega arith; few = (let q = as_many_marks in omega arith); limit = omega arith };
+      opening = record { some = omega arith; few = (omega arith); limit = omega arith };
       drafted = refl;
       allotted_0 = refl;
       allotted_1 = refl;
