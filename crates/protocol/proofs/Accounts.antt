@@ -1,6 +1,6 @@
 -- Accepted, settled, dropped and due, as the calls of a series tell them, are what the last standings say. So depots
 -- agree, since one that has settled excludes one that refused, and pieces are conserved, by the dues of every call.
-use Rattle.std.proofs.Common.{◌≡◌, ℕ, ◌+◌, ◌≤◌, Bool, true, false, cond, ◌&&◌, ◌||◌, eqb, ◌⊎◌, List, [], ◌∷◌, sym, refl, ap, ◌∙◌, subst, inl, inr, arith}
+use Rattle.std.proofs.Common.{◌≡◌, ℕ, ◌+◌, ◌≤◌, Bool, true, false, cond, ◌&&◌, ◌||◌, eqb, ◌⊎◌, List, [], ◌∷◌, sym, refl, ap, ◌∙◌, inl, inr, arith}
 use mathlib.Core.Path.{fun_ext}
 use Rattle.std.proofs.lemmas.Bool.Decides.{nat_tests}
 use Rattle.std.proofs.lemmas.Bool.{eq-eqb, ne_eqb, and_from, and_right, cases_eq, cases_Bool, cond-true, cond-false}
@@ -133,7 +133,7 @@ module _ {P : Policy} (lawful : LawfulPolicy P) {o : Opening} where
     not_dropped x L n y p q = let (z, l, r) = h.safe.dropped y L n q in (h.safe.settled x L n z p l).1 r
 
     pub settled_last : (x L n : ℕ) → 1 ≤ w.settled x L n → past_of s x L n ≡ 4
-    settled_last x L n e = last_is (past_of s x L n) 4 (subst (λ k. 1 ≤ k) (t.settled x L n) e)
+    settled_last x L n e = last_is (past_of s x L n) 4 (rw (t.settled x L n) at e)
 
     pub agreed : (x L n : ℕ) → past_of s x L n ≡ 4 → Agreed w L n (lists_of s L n)
     agreed x L n p =

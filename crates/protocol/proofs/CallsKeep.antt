@@ -1,6 +1,6 @@
 -- Every call keeps a record's law, and what it sends is a lawful letter: by going through its refusals, and for Receive
 -- through the lines of each kind.
-use Rattle.std.proofs.Common.{◌≡◌, ℕ, ◌+◌, ◌-◌, ◌<◌, ◌≤◌, Bool, true, false, not, ◌&&◌, ◌||◌, eqb, leb, List, [], ◌∷◌, sym, refl, ◌∙◌, subst, inl, inr, arith}
+use Rattle.std.proofs.Common.{◌≡◌, ℕ, ◌+◌, ◌-◌, ◌<◌, ◌≤◌, Bool, true, false, not, ◌&&◌, ◌||◌, eqb, leb, List, [], ◌∷◌, sym, refl, ◌∙◌, inl, inr, arith}
 use mathlib.Core.Option.{none}
 use Rattle.std.proofs.lemmas.Bool.{eqb-true, eqb-false, ltb-false, leb-true, leb-false, and_parts, or_parts, not-true, not-false, false≢true}
 use Rattle.entries.specs.declared.lists.Entry.{Entry}
@@ -132,7 +132,7 @@ module _ (P : Policy) (lawful : LawfulPolicy P) (a : Site) (s₀ : State) (law�
     gather_kept (x ∷ xs) l e r f =
         let (fresh, room) = and_parts (not (on s.gathered x.depot)) _ f in
         let q : x.depot ≡ m.sender = r.own.0 in
-        silent (gathers_law a s law x (subst (λ z. (s.rows z).standing ≡ 1) l e) (rw q y-low) (λ z. y-else (sym q ∙ z))
+        silent (gathers_law a s law x (rw l at e) (rw q y-low) (λ z. y-else (sym q ∙ z))
         r.lawful.0.wish_within (not-true _ fresh) (leb-true _ _ room))
 
     accept_kept : (s.rows L).standing ≡ 1 → Listed m.entries → LawfulList a L s.shelf s.wish m.entries →

@@ -1,5 +1,5 @@
 -- The law of a record after each way in which calls change it, given what the call has tested before.
-use Rattle.std.proofs.Common.{◌≡◌, ℕ, ◌+◌, ◌<◌, ◌≤◌, true, false, not, ◌&&◌, eqb, ◌⊎◌, List, [], ◌∷◌, sum, sym, refl, ap, ◌∙◌, subst, inl, inr, arith}
+use Rattle.std.proofs.Common.{◌≡◌, ℕ, ◌+◌, ◌<◌, ◌≤◌, true, false, not, ◌&&◌, eqb, ◌⊎◌, List, [], ◌∷◌, sum, sym, refl, ap, ◌∙◌, inl, inr, arith}
 use Rattle.std.specs.List.{AllByRecursion}
 use Rattle.std.proofs.lemmas.List.Sums.{sum_by-cons}
 use Rattle.std.proofs.lemmas.Bool.{and_parts, both_ways, cases_eq, eqb-true, eq-eqb, not-true, or_cases, or_left, false≢true, cond-true, cond_both}
@@ -28,7 +28,7 @@ unfolding on
 all_on Q [] y h k = absurd (false≢true k)
 all_on Q (e ∷ ℓ) y h k =
     elim (or_cases (eqb e.depot y) (on ℓ y) k) [
-      | inl q ↦ subst Q (eqb-true _ y q) h.0
+      | inl q ↦ rw (eqb-true _ y q) at h.0
       | inr q ↦ all_on Q ℓ y h.1 q
     ]
 
@@ -49,7 +49,7 @@ module _ (a : Site) (s : State) (law : Law a s) where
       let b = law.lists.bound L e in
       let alone = has (mark a.depot) in
       let n = not_every s.list alone (has s.heard)
-      (λ y h. subst (λ x. has s.heard x ≡ true) (sym (of_mark a.depot y h)) b.self) b.waits in
+      (λ y h. rw (of_mark a.depot y h) b.self) b.waits in
       listed_of a L s.shelf s.wish s.list law.site.size b.list
       (two a.depot s.list b.list.me n)
 
@@ -134,7 +134,7 @@ module _ (a : Site) (s : State) (law : Law a s) where
       record {
         list = (law.lists.bound M f).list;
         self = self;
-        head = subst (λ x. has h x ≡ true) (sym q) head;
+        head = rw q head;
         waits = waits;
         within = within;
       })
@@ -262,7 +262,7 @@ module _ (a : Site) (s : State) (law : Law a s) where
         self = mark_self a.depot;
         head = mark_self a.depot;
         waits = waits;
-        within = λ y h. subst (λ x. on s.gathered x ≡ true) (sym (of_mark a.depot y h)) g.me;
+        within = λ y h. rw (of_mark a.depot y h) g.me;
       })
       (λ y h. owe g y (sym (has_less (names s.gathered) (mark a.depot) y) ∙ h))
       (inr (inl (refl, (omega arith, omega arith))))
@@ -273,7 +273,7 @@ module _ (a : Site) (s : State) (law : Law a s) where
           let (p, q) = and_parts (has (names s.gathered) y) (not (has (mark a.depot) y)) h in
           let low = all_on (λ x. x < a.n) s.gathered y g.begun.depots (sym (has_names s.gathered y) ∙ p) in
           let me = mark_self a.depot in
-          (low, λ z. both_ways _ (not-true _ q) (subst (λ x. has (mark a.depot) x ≡ true) (sym z) me))
+          (low, λ z. both_ways _ (not-true _ q) (rw z me))
 
   -- The depot is not engaged, and the row of L is set at 1 under a number
   opened_with : (L n : ℕ) (es : List Entry) → engaged a s ≡ false → L < a.n → 1 ≤ n → n ≤ last_number →

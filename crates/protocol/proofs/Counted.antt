@@ -1,6 +1,6 @@
 -- How often a depot has accepted, settled and dropped, by the calls of a series, is what its last standing says: a row
 -- moves to such a standing once, and never from it.
-use Rattle.std.proofs.Common.{◌≡◌, ℕ, ◌+◌, ◌<◌, ◌≤◌, Bool, true, false, cond, ◌&&◌, ◌||◌, eqb, ◌⊎◌, List, [], ◌∷◌, sym, refl, ap, ◌∙◌, subst, ap₂, inl, inr, arith}
+use Rattle.std.proofs.Common.{◌≡◌, ℕ, ◌+◌, ◌<◌, ◌≤◌, Bool, true, false, cond, ◌&&◌, ◌||◌, eqb, ◌⊎◌, List, [], ◌∷◌, sym, refl, ap, ◌∙◌, ap₂, inl, inr, arith}
 use mathlib.Core.Option.{none}
 use Rattle.std.proofs.lemmas.Bool.Decides.{nat_tests}
 use Rattle.std.proofs.lemmas.Bool.{eqb-true, eq-eqb, ne_eqb, and_parts, or_cases, cases_eq, cases_Bool, cond-true, cond-false}
@@ -215,8 +215,7 @@ module _ {N : ℕ} {P : Policy} {w : History} {d : ℕ} {z : Type 0} {ℓ₀ : L
           ⊎ ((s.rows L).standing ≡ 4) →
           (ℓ₀ ∷ A x L n) ≡ list_if w'.lists L n (has_accepted (w'.past x L n))
       taken q e h f =
-          let k : HasAccepted (w'.past x L n) = subst HasAccepted (sym (ap (λ y. w'.past y L n) q ∙ now_at L n e))
-          (elim f [ inl v ↦ (omega arith) | inr v ↦ (omega arith) ]) in
+          let k : HasAccepted (w'.past x L n) = rw (ap (λ y. w'.past y L n) q ∙ now_at L n e) (elim f [ inl v ↦ (omega arith) | inr v ↦ (omega arith) ]) in
           ap₂ (λ u v. u ∷ v) (tray_empty L h f ∙ ap (w'.lists L) (sym e)) (first q e h)
           ∙ sym (cond-true _ _ _ (true_acc _ k))
 

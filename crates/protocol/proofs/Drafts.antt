@@ -85,4 +85,4 @@ opens_whole d h =
     let l = every_lawful d h in
     let q = sum_set d.n 0 (d.shares 0 + remains d) d.shares (omega arith) in
     let s : total (opened d) ≡ d.total = omega arith in
-    record { lawful = record { some = l.some; few = l.few; limit = (omega arith) }; whole = s }
+    record { lawful = record { some = l.some; few = l.few; limit = omega arith }; whole = s }

@@ -102,8 +102,7 @@ module _ {N : ℕ} {w : History} {d : ℕ} (d<N : d < N) (g : Safe N w) {P : Pol
         (M, row_s, λ y k. subst (λ n. HasAccepted (p' s y M n)) (sym row_n) (all y (sym (ap (λ u. on u y) l) ∙ k)))
         ∙ ap₂ (λ m u. m + share_of P.share u d) t l)
         (λ none. due_no N P (p' s) s d (λ (L, a, f). none
-        (λ y k. subst (λ n. HasAccepted (p' s y M n)) row_n
-        (subst (λ u. HasAccepted (p' s y u (s.rows u).number)) (bound_at L a) (f y (ap (λ u. on u y) l ∙ k)))))
+        (λ y k. rw (← row_n) (rw (bound_at L a) at (f y (ap (λ u. on u y) l ∙ k)))))
         ∙ ap₂ (λ m n. m + n) t h)
       where
         row_s : (s.rows M).standing ≡ 2
@@ -183,7 +182,7 @@ module _ {N : ℕ} {w : History} {d : ℕ} (d<N : d < N) (g : Safe N w) {P : Pol
         omega arith)
     due_move (drop b L y st e a h) = ends L _ 5 refl (omega arith) (λ _. let q = (g.own d).now L in
         omega arith) (λ (M, x, f). let q = alone L (omega arith) M x in
-        (subst (λ u. HasAccepted (p y u (number w d u))) q (f y (ap (λ ℓ. on ℓ y) (g.list d L e) ∙ a))).1 h)
+        (rw q at (f y (ap (λ ℓ. on ℓ y) (g.list d L e) ∙ a))).1 h)
         (alone L (omega arith)) (omega arith)
 
   module _ {z : Type 0} {ℓ₀ : List Entry} {s : State} {i j : ℕ} (does : Effect N P w d z ℓ₀ s i j) where
@@ -231,7 +230,7 @@ module _ {N : ℕ} {w : History} {d : ℕ} (d<N : d < N) (g : Safe N w) {P : Pol
       -- bound to it before d
       bound_list : (x : ℕ) → standing w x M ≡ 2 → number w x M ≡ n → (w.at x).list ≡ ℓ
       bound_list x a f = g.list x M a
-          ∙ (ap (w.lists M) f ∙ sym (led_by x (acc_2 _ (subst (λ m. p x M m ≡ 2) f ((g.own x).now M ∙ a)))))
+          ∙ (ap (w.lists M) f ∙ sym (led_by x (acc_2 _ (rw f at ((g.own x).now M ∙ a)))))
 
       -- a list that stands now stood before, but this one
       stood : (x : ℕ) → (standing w x M ≡ 2 → number w x M ≡ n → Firm q (w.at x) → ⊥) →
@@ -240,8 +239,8 @@ module _ {N : ℕ} {w : History} {d : ℕ} (d<N : d < N) (g : Safe N w) {P : Pol
         L,
         a,
         λ y h. elim (point s M n k e y L (number w x L)) [
-          | inl (u, v, m, _) ↦ absurd (refusal_kept (subst (λ z. standing w x z ≡ 2) v a)
-              (subst (λ z. number w x z ≡ n) v m) (L, a, f))
+          | inl (u, v, m, _) ↦ absurd (refusal_kept (rw v at a)
+              (rw v at m) (L, a, f))
           | inr u ↦ rw u at (f y h)
         ],
       )
@@ -250,8 +249,7 @@ module _ {N : ℕ} {w : History} {d : ℕ} (d<N : d < N) (g : Safe N w) {P : Pol
         -- everybody else on it is bound to it
         joined : (x : ℕ) → (x ≡ d → ⊥) → on ℓ x ≡ true → (standing w x M ≡ 2) × (number w x M ≡ n)
         joined x x≢d h =
-            let a : HasAccepted (p x M n) = subst (λ u. HasAccepted (u M n))
-            (else_past g (move_of d<N g does) x x≢d) (all x h) in
+            let a : HasAccepted (p x M n) = rw (← (else_past g (move_of d<N g does) x x≢d)) (all x h) in
             let l = led_by x a in
             let not4 : p x M n ≡ 4 → ⊥ = λ f. (let v = g.settled x M n d f (ap (λ u. on u d) (sym l) ∙ me) in
             let y = offered in omega arith) in
@@ -288,11 +286,10 @@ module _ {N : ℕ} {w : History} {d : ℕ} (d<N : d < N) (g : Safe N w) {P : Pol
                 let l = bound_list x a m in
                 let before = due_no N P p (w.at x) x
                 (λ (L, f, h). let r = g.single x L M (omega arith) (omega arith) in
-                let t = subst (λ z. HasAccepted (p d M z)) m
-                (subst (λ z. HasAccepted (p d z (number w x z))) r (h d (ap (λ u. on u d) l ∙ me))) in
+                let t = rw m at (rw r at (h d (ap (λ u. on u d) l ∙ me))) in
                 let y = offered in omega arith) in
                 let after = there x u ∙ (due_yes N P q (w.at x) x (g.small x)
-                (M, a, λ y h. subst (λ z. HasAccepted (q y M z)) (sym m) (all y (sym (ap (λ u. on u y) l) ∙ h)))
+                (M, a, λ y h. rw m (all y (sym (ap (λ u. on u y) l) ∙ h)))
                 ∙ ap (λ u. (w.at x).tray + share_of P.share u x) l) in
                 let own : (entry_of ℓ x).shelf ≡ (w.at x).shelf = ap (λ u. (entry_of u x).shelf) (sym l)
                 ∙ (g.held x M a).mine in
@@ -341,7 +338,5 @@ module _ {N : ℕ} {w : History} {d : ℕ} (d<N : d < N) (g : Safe N w) {P : Pol
                 λ f. both_ways _ u (all_every ℓ (λ y. has_accepted (q y M (number w d M)))
                 (λ y v. true_acc _ (f y v))) in
                 let off : (x : ℕ) → standing w x M ≡ 2 → number w x M ≡ number w d M → Firm q (w.at x) → ⊥ =
-                λ x f m (L, g', h'). nope (λ y v. subst (λ z. HasAccepted (q y M z)) m
-                (subst (λ z. HasAccepted (q y z (number w x z))) (g.single x L M (omega arith) (omega arith))
-                (h' y (ap (λ z. on z y) (bound_list M k ℓ e b me mine c x f m) ∙ v)))) in
+                λ x f m (L, g', h'). nope (λ y v. rw m at (rw (g.single x L M (omega arith) (omega arith)) at (h' y (ap (λ z. on z y) (bound_list M k ℓ e b me mine c x f m) ∙ v)))) in
                 by_one (λ x v. unmoved x v (stood M k ℓ e b me mine c x (off x))) (let x = due_no N P p (w.at d) d (loose M b) in omega arith)

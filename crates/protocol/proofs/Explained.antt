@@ -78,8 +78,7 @@ module _ {N : ℕ} (P : Policy) {w : History} {d : ℕ} (z : Type 0) (ℓ₀ : L
       (λ _. (
         refl,
         refl,
-        subst (λ k. Vouches k d L (t.rows L).standing es
-            (λ ℓ. ((t.rows L).standing ≡ 2) × (ℓ ≡ t.list))) (sym (kind_back c)) h,
+        rw (kind_back c) h,
       ))
 
   -- an effect on the row of L, and the letter that tells of it
@@ -91,7 +90,7 @@ module _ {N : ℕ} (P : Policy) {w : History} {d : ℕ} (z : Type 0) (ℓ₀ : L
       record {
         effect = f;
         vouched =
-            mail_vouched t c to L es (subst (λ r. Vouches c d L r es (λ ℓ. (r ≡ 2) × (ℓ ≡ t.list))) (sym q) h);
+            mail_vouched t c to L es (rw q h);
       }
 
   row_is : (L k : ℕ) → eqb (standing w d L) k ≡ true → standing w d L ≡ k
@@ -167,7 +166,7 @@ module _ {N : ℕ} (P : Policy) {w : History} {d : ℕ} (z : Type 0) (ℓ₀ : L
       gather_explained [] l h t f = elim f [ ]
       gather_explained (e ∷ xs) l h t f =
           record {
-            effect = Effect.gather b e st (subst (λ u. standing w d u ≡ 1) l h)
+            effect = Effect.gather b e st (rw l at h)
                 (subst (λ u. 1 ≤ w.past e.depot u (number w d u)) l (rw f t));
             vouched = tt;
           }
@@ -200,7 +199,7 @@ module _ {N : ℕ} (P : Policy) {w : History} {d : ℕ} (z : Type 0) (ℓ₀ : L
           (line Go here 1 (λ _ _. still_explained) unlined_explained)
       kind_explained kinds.List e₀ alive r t =
           line Go here 1 (λ q h. let f = acceptable_lawful a s₁ L y n es r (and_parts (eqb y L) _ h).1 in
-          accept_explained e₀ q (subst (λ u. HasAccepted (w.past u L (number w d L))) t.0 t.1) t.2
+          accept_explained e₀ q (rw t.0 at t.1) t.2
           (record { listed = r; low = f.begun.depots; me = f.me; mine = f.own_shelf }))
           (line Go here 1 (λ q _. refuse_explained L _ q) (tells_explained _ Leader))
       kind_explained kinds.Yes e₀ alive r t = line Go here 2 (λ q _. hear_explained q t) unlined_explained
@@ -235,8 +234,7 @@ module _ {N : ℕ} (P : Policy) {w : History} {d : ℕ} (z : Type 0) (ℓ₀ : L
       went k =
           let (u, v) = and_parts (tells_end (kind_of m.kind)) (eqb m.leader d) k in
           let l : m.leader ≡ d = eqb-true m.leader d v in
-          subst (λ u. 3 ≤ w.past m.sender u (number w d u)) l
-          (rw (e k) at (ended_vouches (kind_of m.kind) m.sender m.leader
+          rw l at (rw (e k) at (ended_vouches (kind_of m.kind) m.sender m.leader
           (w.past m.sender m.leader m.number) m.entries
           (λ ℓ. ℓ ≡ w.lists m.leader m.number) u t))
 
@@ -254,23 +252,19 @@ module _ {N : ℕ} (P : Policy) {w : History} {d : ℕ} (z : Type 0) (ℓ₀ : L
   step_explained m e₀ ok t l up asked free =
       by (λ k. Go' (decided (kind_of m.kind) k sit))
       (λ n. let k = asks_is _ (not-false _ (other_way _ _ n asked)) in
-      let (y, q) = subst (λ c. Vouches c m.sender m.leader
-      (w.past m.sender m.leader m.number) m.entries
-      (λ ℓ. ℓ ≡ w.lists m.leader m.number)) k t in
+      let (y, q) = rw k at t in
       let st =
-      struck_explained m t (λ x. absurd (not_struck m (subst (λ c. tells_end c ≡ false) (sym k) ask_ends_nothing) x))
+      struck_explained m t (λ x. absurd (not_struck m (rw k ask_ends_nothing) x))
       in
       let lt = ltb-true (number w d m.leader) m.number n in
-      subst (λ c. Go' (decided c 0 sit)) (sym k) (subst Go' (sym (by_kind_lem kinds.Ask 0 sit))
-      (by Go' (λ _. vouches_of kinds.Offer _ m.leader m.number 1 _ (turned m.leader m.number 1 s₂) refl
+      rw k (rw (by_kind_lem kinds.Ask 0 sit) (by Go' (λ _. vouches_of kinds.Offer _ m.leader m.number 1 _ (turned m.leader m.number 1 s₂) refl
       (Effect.offer _ m.leader m.number st l (idle_of (other_way _ _ n free)) lt
-      (subst (λ x. 1 ≤ w.past x m.leader m.number) y q)) (omega arith, refl))
+      (rw y at q)) (omega arith, refl))
       (λ _. by Go' (λ e. absurd (false≢true e))
       (λ _. unlined_explained s₂.owing st (strikes a m) m.leader m.sender m.number m.entries)))))
       (λ n. let e : m.number ≡ number w d m.leader = (let u = ltb-false _ _ n in
       let v = ltb-false _ _ up in omega arith) in
-      subst Go' (sym (by_kind_lem (kind_of m.kind) _ sit))
-      (kind_explained _ (struck_explained m t (λ _. e)) (strikes a m) m.leader m.sender m.number m.entries
+      rw (by_kind_lem (kind_of m.kind) _ sit) (kind_explained _ (struck_explained m t (λ _. e)) (strikes a m) m.leader m.sender m.number m.entries
       (kind_of m.kind) e₀
       (λ z. let h = (law.rows.row m.leader).number_none z in omega arith)
       (lawful_right m ok) (rw e at t)))

@@ -1,11 +1,11 @@
 -- What stays so, call after call: a standing only moves on, a list once accepted stays its handover's list. So what
 -- depots have agreed on they agree on for good.
-use Rattle.std.proofs.Common.{◌≡◌, ℕ, ◌⊎◌, refl, ap, ◌∙◌, subst, inl, inr, arith}
+use Rattle.std.proofs.Common.{◌≡◌, ℕ, ◌⊎◌, refl, ap, ◌∙◌, inl, inr, arith}
 use Rattle.protocol.specs.Calls.{Call}
 use Rattle.protocol.specs.Law.{HasAccepted}
 use Rattle.protocol.specs.Opening.{Opening, LawfulOpening}
 use Rattle.protocol.specs.Policy.{Policy, LawfulPolicy}
-use Rattle.protocol.specs.Promises.{Agreed, Agreement}
+use Rattle.protocol.specs.Promises.{Agreement}
 use Rattle.protocol.specs.Series.{Stage, just_opened, Allowed, Series, start, then}
 use Rattle.protocol.proofs.History.{history, past_of, lists_of}
 use Rattle.protocol.proofs.RowMoves.{move_of}
@@ -55,5 +55,5 @@ module _ {P : Policy} (lawful : LawfulPolicy P) {o : Opening} (ok : LawfulOpenin
         lists_of s L n,
         (invariant lawful ok s).safe.listed x L n (omega arith),
         λ u t.
-            (let (q, l) = settled_ever s t x L n p in subst (Agreed u L n) l (agreed lawful ok (glue s t) x L n q)),
+            (let (q, l) = settled_ever s t x L n p in rw l at (agreed lawful ok (glue s t) x L n q)),
       )

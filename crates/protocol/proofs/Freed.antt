@@ -62,18 +62,17 @@ module _ {P : Policy} (lawful : LawfulPolicy P) {o : Opening} (ok : LawfulOpenin
         elim (still_or_handled lawful ok σ d c a) [
           | inl q ↦ subst (λ u. has (u.at x).heard y ≡ true) (sym q) k
           | inr q ↦ elim (upd_tells w.at d t x) [
-            | inl (u, v) ↦ subst (λ z. has z.heard y ≡ true) (sym v)
-                (heard_on h.safe L (subst (λ z. ((w.at z).rows L).standing ≡ 2) u b) (f (sym u))
+            | inl (u, v) ↦ rw v (heard_on h.safe L (rw u at b) (f (sym u))
                 q.explained.effect (sym (ap (λ z. (z.rows L).standing) v) ∙ e) y
-                (subst (λ z. has (w.at z).heard y ≡ true) u k))
-            | inr (u, v) ↦ subst (λ z. has z.heard y ≡ true) (sym v) k
+                (rw u at k))
+            | inr (u, v) ↦ rw v k
           ]
         ]
 
     -- what a call sends can be read
     sent_readable : Readable (sends (outcome P o w d c))
     sent_readable = by_call lawful h d (λ c _. Readable (sends (outcome P o w d c)))
-        (λ _. subst Readable (sym (hand_is h d).silent) tt) (λ c _ k. k.kept.mails) c a
+        (λ _. rw (hand_is h d).silent tt) (λ c _ k. k.kept.mails) c a
 
   read : (w : Stage) (d : ℕ) (m : Contents) → Lawful m → outcome P o w d (Receive (encode m))
       ≡ take P (site P o d) (w.at d) m
@@ -101,7 +100,7 @@ module _ {P : Policy} (lawful : LawfulPolicy P) {o : Opening} (ok : LawfulOpenin
         (query_is (site P o x) (v.at x) L m f₀).1
 
     m_lawful : Lawful m
-    m_lawful = subst Readable f₀ (sent_readable r₀ x Query a₀)
+    m_lawful = rw f₀ at (sent_readable r₀ x Query a₀)
 
     abbrev v₁ : Stage
     v₁ = called P o v x Query
@@ -147,8 +146,7 @@ module _ {P : Policy} (lawful : LawfulPolicy P) {o : Opening} (ok : LawfulOpenin
           let h = invariant lawful ok (all s) in
           let q : r ≡ sends (take P (site P o y) (w.at y) m) =
           k ∙ (ap₂ (λ d c. sends (outcome P o w d c)) e f ∙ ap sends (read w y m m_lawful)) in
-          subst (Replies P x L n y) (sym (q ∙ ap (λ u. sends (take P (site P o y) (w.at y) u)) m_is))
-          (answer P x L n y h.safe h.leaders (before s d c a b) (listed s) x<N y≢x
+          rw (q ∙ ap (λ u. sends (take P (site P o y) (w.at y) u)) m_is) (answer P x L n y h.safe h.leaders (before s d c a b) (listed s) x<N y≢x
           (others (site P o x) (v.at x).list) [] (on_others o.n P x (v.at x).list y on-y y≢x))
 
       reply_lawful : {w : Stage} (s : Series P o v₁ w) (r : Contents) → Arrives m y (some r) s → Lawful r
@@ -165,7 +163,7 @@ module _ {P : Policy} (lawful : LawfulPolicy P) {o : Opening} (ok : LawfulOpenin
           let q = arrives P x L n y h.safe h.leaders b (listed s) x<N y≢x r f in
           let u : (called P o w x (Receive (encode r))).at x ≡ after (w.at x) (take P (site P o x) (w.at x) r) =
           at_x w x (after (w.at x) (outcome P o w x (Receive (encode r)))) ∙ ap (after (w.at x)) (read w x r k) in
-          subst (λ z. (z.rows L).standing ≡ 2 → has z.heard y ≡ true) (sym u) q
+          rw u q
         where
           at_x : (w : Stage) (x : ℕ) (t : State) → upd w.at x t x ≡ t
           at_x w x t = elim (upd_tells w.at x t x) [ inl u ↦ u.1 | inr u ↦ absurd (u.0 refl) ]
@@ -198,7 +196,7 @@ module _ {P : Policy} (lawful : LawfulPolicy P) {o : Opening} (ok : LawfulOpenin
         both_ways _ held.waits
         (all_every _ (has (w.at x).heard)
         (λ y k. elim (cases_eq y x) [
-          | inl u ↦ subst (λ z. has (w.at x).heard z ≡ true) (sym u) held.self
+          | inl u ↦ rw u held.self
           | inr u ↦ (let k' = ap (λ z. on z y) (sym same) ∙ k in heard_last y u k' s sp b (all_back y k' u))
         ]))
 

@@ -1,6 +1,6 @@
 -- Who is in a set of depots, told as a case: by the laws of membership. A set of depots that there can be fits the
 -- place that a letter has for it.
-use Rattle.std.proofs.Common.{◌≡◌, ℕ, ◌^◌, ◌<◌, ◌≤◌, true, false, not, ◌⊎◌, List, sym, refl, ◌∙◌, subst, inl, inr, arith}
+use Rattle.std.proofs.Common.{◌≡◌, ℕ, ◌^◌, ◌<◌, ◌≤◌, true, false, not, ◌⊎◌, List, sym, refl, ◌∙◌, inl, inr, arith}
 use Rattle.std.proofs.lemmas.Bool.Decides.{nat_tests}
 use Rattle.std.proofs.lemmas.Bool.{ltb-true, and_parts, both_ways}
 use Rattle.entries.specs.declared.lists.Entry.{Entry}
@@ -44,7 +44,7 @@ head_pair a L = elim (add_tells (mark a.depot) L L) [ inl u ↦ u.1 | inr u ↦ 
 
 -- what is so of a depot and of its leader is so of their pair
 pub of_both : (a : Site) (L : ℕ) (Q : ℕ → Type 0) → Q a.depot → Q L → (y : ℕ) → has (pair a L) y ≡ true → Q y
-of_both a L Q self head y h = elim (in_pair a L y h) [ inl q ↦ subst Q (sym q) self | inr q ↦ subst Q (sym q) head ]
+of_both a L Q self head y h = elim (in_pair a L y h) [ inl q ↦ rw q self | inr q ↦ rw q head ]
 
 pub less_none : (other : ℕ) → less 0 other ≡ 0
 unfolding less
@@ -59,7 +59,7 @@ Below n set = (i : ℕ) → has set i ≡ true → i < n
 
 pub mark_below : (n i : ℕ) → i < n → Below n (mark i)
 mark_below n i h x k =
-    elim (mark_tells i x) [ inl q ↦ subst (λ u. u < n) (sym q.0) h | inr q ↦ absurd (both_ways _ q.1 k) ]
+    elim (mark_tells i x) [ inl q ↦ rw q.0 h | inr q ↦ absurd (both_ways _ q.1 k) ]
 
 pub less_below : (n set other : ℕ) → Below n set → Below n (less set other)
 less_below n set other h x k = h x (and_parts (has set x) (not (has other x)) (sym (sets.has_less set other x) ∙ k)).0
@@ -72,4 +72,4 @@ names_below n es h x k = h x (sym (sets.has_names es x) ∙ k)
 
 -- a set of depots fits the place that a letter has for it
 pub set_fits : (set : ℕ) → Below max_depots set → set < 256 ^ to_len
-set_fits set h = subst (λ w. set < 2 ^ w) as_many_marks (sets.from_width max_depots set h)
+set_fits set h = rw as_many_marks at (sets.from_width max_depots set h)

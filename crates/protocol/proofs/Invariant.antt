@@ -1,6 +1,6 @@
 -- What holds after every series, by going through its calls: the history is safe, every record is lawful, and so is
 -- every letter sent.
-use Rattle.std.proofs.Common.{◌≡◌, ℕ, zero, suc, ◌<◌, ◌≤◌, true, false, eqb, List, sym, refl, ap, ◌∙◌, subst, ap₂, inl, inr, arith}
+use Rattle.std.proofs.Common.{◌≡◌, ℕ, zero, suc, ◌<◌, ◌≤◌, true, false, eqb, List, sym, refl, ap, ◌∙◌, ap₂, inl, inr, arith}
 use mathlib.Core.Path.{fun_ext}
 use mathlib.Core.Option.{Option, none, some}
 use Rattle.std.proofs.lemmas.Bool.Decides.{nat_tests}
@@ -9,7 +9,7 @@ use Rattle.entries.specs.declared.lists.Entry.{Entry}
 use Rattle.letters.specs.Contents.{Contents, Lawful}
 use Rattle.letters.specs.Reading.{letter, reads}
 use Rattle.protocol.specs.Calls.{Call, Hand, Issue, Return, Wish, Lead, Propose, Withdraw, Query, Remind, Restart}
-use Rattle.protocol.specs.Calls.{Receive, entries_read, list_carried, issues, returns, hands}
+use Rattle.protocol.specs.Calls.{Receive, list_carried, issues, returns, hands}
 use Rattle.protocol.specs.Keeping.{Keeps, CallsKeep, Readable}
 use Rattle.protocol.specs.Law.{Law}
 use Rattle.protocol.specs.Opening.{Opening, LawfulOpening, sum_to}
@@ -18,7 +18,6 @@ use Rattle.protocol.specs.Policy.{Policy, LawfulPolicy}
 use Rattle.protocol.specs.Series.{Stage, just_opened, site, outcome, Among, Given, Allowed, Series, posted, called}
 use Rattle.protocol.specs.Series.{start, then}
 use Rattle.protocol.specs.State.{upd, Site, State, fresh}
-use Rattle.protocol.specs.Taking.{taken}
 use Rattle.letters.proofs.Forth.{one_form}
 use Rattle.protocol.proofs.Tests.{upd_tells, by}
 use Rattle.protocol.proofs.History.{History, next, history, Safe, LeadersKnow}
@@ -96,14 +95,12 @@ module _ {P : Policy} (lawful : LawfulPolicy P) {o : Opening} {w : Stage} {s : S
   read_handled bytes e (inl (m, k, q)) =
       let r : reads bytes ≡ letter m = ap reads q ∙ one_form.read_back m (h.sent m k) in
       handled refl e
-      (λ l. subst (λ x. Explained o.n P (history s) d (Receive bytes ≡ Restart) (entries_read x) 0 0
-      (taken P a (w.at d) x)) (sym r) (take_explained P _ _ h.safe l m refl (h.sent m k) (h.safe.letter m k)))
-      (λ c. subst (λ x. Keeps a (w.at d) (taken P a (w.at d) x)) (sym r) (c.take m (h.sent m k)))
+      (λ l. rw r (take_explained P _ _ h.safe l m refl (h.sent m k) (h.safe.letter m k)))
+      (λ c. rw r (c.take m (h.sent m k)))
   read_handled bytes e (inr (n, q)) =
       handled refl e
-      (λ l. subst (λ x. Explained o.n P (history s) d (Receive bytes ≡ Restart) (entries_read x) 0 0
-      (taken P a (w.at d) x)) (sym q) (refused_explained P _ _ h.safe l 0 0 n))
-      (λ c. subst (λ x. Keeps a (w.at d) (taken P a (w.at d) x)) (sym q) (refusal_kept a (w.at d) (h.law d (h.low d e)) n))
+      (λ l. rw q (refused_explained P _ _ h.safe l 0 0 n))
+      (λ c. rw q (refusal_kept a (w.at d) (h.law d (h.low d e)) n))
 
   -- what is so after a Hand, and after a call at a depot that has its record, is so after every call
   pub by_call : (Q : (c : Call) → Allowed w d c → Type 0) → ((t : Allowed w d Hand) → Q Hand t) →
@@ -186,15 +183,15 @@ module _ {P : Policy} {o : Opening} {w : Stage} {s : Series P o (just_opened o) 
   hand_invariant : (t : Allowed w d Hand) → Invariant (then s d Hand t)
   hand_invariant t =
       record {
-        safe = subst (Safe o.n) (sym (hand_history t)) h.safe;
-        leaders = subst (LeadersKnow o.n) (sym (hand_history t)) h.leaders;
-        law = λ x l. subst (Law (site P o x)) (sym (at x)) (h.law x l);
-        sent = λ m k. h.sent m (subst (λ u. Among m (posted u w.sent)) hand_is.silent k);
+        safe = rw (hand_history t) h.safe;
+        leaders = rw (hand_history t) h.leaders;
+        law = λ x l. rw (at x) (h.law x l);
+        sent = λ m k. h.sent m (rw hand_is.silent at k);
         unhanded = λ x e. at x ∙ h.unhanded x (or_parts (w.handed x) _ e).0;
         low = λ x e. elim (or_cases (w.handed x) _ e) [
           | inl q ↦ h.low x q
           | inr q ↦ (let (p, r) = and_parts (served (outcome P o w d Hand)) (eqb x d) q in
-              subst (λ z. z < o.n) (sym (eqb-true x d r)) (hand_is.low p))
+              rw (eqb-true x d r) (hand_is.low p))
         ];
       }
     where
@@ -208,14 +205,13 @@ module _ {P : Policy} {o : Opening} {w : Stage} {s : Series P o (just_opened o) 
         safe = safe_next h.safe (move_of k.low h.safe k.explained.effect) (sends r) k.explained.vouched;
         leaders = leaders_next k.low h.safe h.leaders k.explained.effect (sends r);
         law = λ x l. elim (upd_tells w.at d (after (w.at d) r) x) [
-          | inl u ↦ subst (Law (site P o x)) (sym u.1)
-              (subst (λ z. Law (site P o z) (after (w.at d) r)) (sym u.0) k.kept.law)
-          | inr u ↦ subst (Law (site P o x)) (sym u.1) (h.law x l)
+          | inl u ↦ rw u.1 (rw u.0 k.kept.law)
+          | inr u ↦ rw u.1 (h.law x l)
         ];
         sent = mailed (sends r) w.sent k.kept.mails h.sent;
         unhanded = λ x q. let z = (or_parts (w.handed x) _ q).0 in
             elim (upd_tells w.at d (after (w.at d) r) x) [
-              | inl u ↦ absurd (both_ways _ (subst (λ y. w.handed y ≡ false) u.0 z) k.handed)
+              | inl u ↦ absurd (both_ways _ (rw u.0 at z) k.handed)
               | inr u ↦ u.1 ∙ h.unhanded x z
             ];
         low = λ x q. elim (or_cases (w.handed x) _ q) [

@@ -61,7 +61,7 @@ module _ {N : ℕ} {w : History} {d : ℕ} (d<N : d < N) (g : Safe N w)
     (l : LeadersKnow N w) where
   kept : {s : State} → s.rows d ≡ (w.at d).rows d → s.gathered ≡ (w.at d).gathered →
       Strikes w d s.owing → OwnRowMove N w d s
-  kept e f st = keeps (ap (λ r. r.number) e) (λ a. subst HasAccepted (ap (λ r. r.standing) e) a)
+  kept e f st = keeps (ap (λ r. r.number) e) (λ a. rw (ap (λ r. r.standing) e) at a)
       (λ b y k. l.gathered d y (sym (ap (λ r. r.standing) e) ∙ b) (sym (ap (λ u. on u y) f) ∙ k)) st
 
   -- a row is set that was offered or bound, and nothing is gathered any more
@@ -72,9 +72,9 @@ module _ {N : ℕ} {w : History} {d : ℕ} (d<N : d < N) (g : Safe N w)
       let r = ap (λ u. u d) e in
       elim (upd_tells (w.at d).rows M (record { number = number w d M; standing = k }) d) [
         | inl q ↦ keeps (ap (λ u. u.number) (r ∙ q.1) ∙ ap (number w d) (sym q.0))
-            (λ a. f (sym q.0) (subst HasAccepted (ap (λ u. u.standing) (r ∙ q.1)) a))
+            (λ a. f (sym q.0) (rw (ap (λ u. u.standing) (r ∙ q.1)) at a))
             (λ _ y k. absurd (on_none y (sym (ap (λ u. on u y) h) ∙ k))) st
-        | inr q ↦ keeps (ap (λ u. u.number) (r ∙ q.1)) (λ a. subst HasAccepted (ap (λ u. u.standing) (r ∙ q.1)) a)
+        | inr q ↦ keeps (ap (λ u. u.number) (r ∙ q.1)) (λ a. rw (← (ap (λ u. u.standing) (r ∙ q.1))) a)
             (λ _ y k. absurd (on_none y (sym (ap (λ u. on u y) h) ∙ k))) st
       ]
 
@@ -95,7 +95,7 @@ module _ {N : ℕ} {w : History} {d : ℕ} (d<N : d < N) (g : Safe N w)
       ]) refl st
   own_row_move (gather b e st h a) =
       keeps refl (λ a. a) (λ k y f. elim (on_insert e _ y f) [
-        | inl q ↦ subst (λ x. 1 ≤ w.past x d (number w d d)) q a
+        | inl q ↦ rw q at a
         | inr q ↦ l.gathered d y h q
       ]) st
   own_row_move {P} (propose e₀ e f u) = proposes (grind (arith, upd_tells)) (grind (arith, upd_tells)) e
@@ -106,11 +106,9 @@ module _ {N : ℕ} {w : History} {d : ℕ} (d<N : d < N) (g : Safe N w)
             (cases_eq y d) [ inl q ↦ inl q | inr q ↦ inr (on_others N P d _ y k q) ],
       ))
   own_row_move (accept b L ℓ e₀ st e a q f u) =
-      sets L 2 refl (λ v _. subst HasAccepted ((g.own d).now d)
-      (subst (λ x. HasAccepted (w.past x x (number w d x))) v a)) refl st
+      sets L 2 refl (λ v _. rw ((g.own d).now d) at (rw v at a)) refl st
   own_row_move (join b L ℓ e₀ st e a q f u) =
-      sets L 4 refl (λ v _. subst HasAccepted ((g.own d).now d)
-      (subst (λ x. HasAccepted (w.past x x (number w d x))) v a)) refl st
+      sets L 4 refl (λ v _. rw (← ((g.own d).now d)) (subst (λ x. HasAccepted (w.past x x (number w d x))) v a)) refl st
   own_row_move (refuse b L st e) = sets L 3 refl (λ _ a. absurd (omega arith)) refl st
   own_row_move (settle b L st e a) = sets L 4 refl (λ q _. let r = ap (standing w d) q in omega arith) refl st
   own_row_move (drop b L y st e a h) = sets L 5 refl (λ q _. let r = ap (standing w d) q in omega arith) refl st
@@ -138,9 +136,8 @@ module _ {N : ℕ} {w : History} {d : ℕ} (d<N : d < N) (g : Safe N w)
 
     gathered_d : (y : ℕ) → (s.rows d).standing ≡ 1 → on s.gathered y ≡ true → 1 ≤ w'.past y d (s.rows d).number
     gathered_d y h k = elim (own_row_move does) [
-      | keeps e f c st ↦ at_least y d _ 1 (subst (λ m. 1 ≤ w.past y d m) (sym e) (c h y k))
-      | leads e f c n u ↦ subst (λ x. 1 ≤ w'.past x d (s.rows d).number) (sym (c y k))
-          (let q = now_d g mv d in omega arith)
+      | keeps e f c st ↦ at_least y d _ 1 (rw e (c h y k))
+      | leads e f c n u ↦ rw (c y k) (let q = now_d g mv d in omega arith)
       | proposes e f c n ↦ absurd (omega arith)
     ]
 
@@ -163,18 +160,18 @@ module _ {N : ℕ} {w : History} {d : ℕ} (d<N : d < N) (g : Safe N w)
         go : n ≡ (s.rows d).number → OwnRowMove N w d s → (1 ≤ w'.past y d n) × (y < N)
         go q (keeps e f c st) = old_offered d n y
             (subst HasAccepted (sym ((g.own d).now d) ∙ ap (w.past d d) (sym (q ∙ e)))
-            (f (subst HasAccepted (ap (w'.past d d) q ∙ now_d g mv d) a))) k
+            (f (rw (ap (w'.past d d) q ∙ now_d g mv d) at a))) k
         go q (leads e f c n u) = absurd (let r = ap (w'.past d d) q ∙ now_d g mv d in omega arith)
         go q (proposes e f c h) =
             let r = h y (ap (λ u. on u y) (list_d g mv d f ∙ ap (w'.lists d) (sym q)) ∙ k) in
-            (at_least y d n 1 (subst (λ m. 1 ≤ w.past y d m) (sym (q ∙ e)) r.0), r.1)
+            (at_least y d n 1 (rw (q ∙ e) r.0), r.1)
 
     owing_d : (y : ℕ) → HasAccepted (s.rows d).standing → on (w'.lists d (s.rows d).number) y ≡ true →
         (y ≡ d) ⊎ ((has s.owing y ≡ true) ⊎ (3 ≤ w'.past y d (s.rows d).number))
     owing_d y a k = go (own_row_move does)
       where
         went : (s.rows d).number ≡ number w d d → 3 ≤ w.past y d (number w d d) → 3 ≤ w'.past y d (s.rows d).number
-        went e h = at_least y d _ 3 (subst (λ m. 3 ≤ w.past y d m) (sym e) h)
+        went e h = at_least y d _ 3 (rw e h)
 
         old : (s.rows d).number ≡ number w d d → HasAccepted (standing w d d) →
             (y ≡ d) ⊎ ((has (w.at d).owing y ≡ true) ⊎ (3 ≤ w.past y d (number w d d)))
@@ -212,10 +209,10 @@ module _ {N : ℕ} {w : History} {d : ℕ} (d<N : d < N) (g : Safe N w)
                 let x : standing w d d ≤ 2 → ⊥ = λ v. h (omega arith) in
                 at_least y d n 3
                 (elim (l.owing d y (omega arith) (ap (λ v. on (w.lists d v) y) (sym q) ∙ m)) [
-                  | inl v ↦ subst (λ u. 3 ≤ w.past u d n) (sym v) (omega arith)
+                  | inl v ↦ rw v (omega arith)
                   | inr v ↦ elim v [
-                    | inl c' ↦ absurd (has_none y (subst (λ v. has v y ≡ true) u c'))
-                    | inr c' ↦ subst (λ u. 3 ≤ w.past y d u) (sym q) c'
+                    | inl c' ↦ absurd (has_none y (rw u at c'))
+                    | inr c' ↦ rw q c'
                   ]
                 ])
 
@@ -231,7 +228,7 @@ module _ {N : ℕ} {w : History} {d : ℕ} (d<N : d < N) (g : Safe N w)
           owing = λ L y. case' L (λ x z q. HasAccepted (z.rows x).standing → on (w'.lists x (z.rows x).number) y
               ≡ true → (y ≡ x) ⊎ ((has z.owing y ≡ true) ⊎ (3 ≤ w'.past y x (z.rows x).number))) (owing_d y)
               (λ _ a k. ⊎_map (λ u. u) (⊎_map (λ u. u) (at_least y L _ 3))
-              (l.owing L y a (sym (ap (λ u. on u y) (listed L _ (subst HasAccepted (sym ((g.own L).now L)) a))) ∙ k)));
+              (l.owing L y a (sym (ap (λ u. on u y) (listed L _ (rw ((g.own L).now L) a))) ∙ k)));
           over = λ L n y. case' L (λ x z q. HasAccepted (q x n) → n < (z.rows x).number → on (w'.lists x n) y ≡ true →
               3 ≤ w'.past y x n) (over_d n y) (λ _. old_over L n y);
         }

@@ -63,9 +63,9 @@ offering a s t law law' to L high row =
       own = (refl, tt);
       lawful = (
         record {
-          depot_below = (omega arith);
+          depot_below = omega arith;
           wish_within = law.stock.wish;
-          shelf_within = (omega arith);
+          shelf_within = omega arith;
         },
         tt,
       );

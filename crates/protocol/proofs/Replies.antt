@@ -1,6 +1,6 @@
 -- While a depot is bound, every other depot on its list answers its Query, and the answer ends the handover or is
 -- heard: the leader has not gone on, so all rows of that leader have the number of the handover.
-use Rattle.std.proofs.Common.{◌≡◌, ℕ, ◌<◌, ◌≤◌, Bool, true, false, not, ◌&&◌, eqb, List, [], sym, refl, ap, ◌∙◌, subst, inl, inr, arith}
+use Rattle.std.proofs.Common.{◌≡◌, ℕ, ◌<◌, ◌≤◌, Bool, true, false, not, ◌&&◌, eqb, List, [], sym, refl, ap, ◌∙◌, inl, inr, arith}
 use mathlib.Core.Option.{Option, none, some}
 use Rattle.std.proofs.lemmas.Bool.Decides.{nat_tests}
 use Rattle.std.proofs.lemmas.Bool.{eqb-true, eq-eqb, ne_eqb, le-ltb, lt-leb, and_from, and_left, or_from, not_from_true, both_ways, cases_eq, cases_lt}
@@ -137,7 +137,7 @@ pub mail_some : (a : Site) (s : State) (k : Kind) (to L : ℕ) (es : List Entry)
     mail a s k to L es ≡ some (note a s k to L es)
 unfolding mail
 mail_some a s k to L es x h = by (λ u. u ≡ some (note a s k to L es))
-    (λ e. absurd (has_none x (subst (λ u. has u x ≡ true) (eqb-true to 0 e) h))) (λ _. refl)
+    (λ e. absurd (has_none x (rw (eqb-true to 0 e) at h))) (λ _. refl)
 
 -- a letter about the number in the leader's row, under the policy and to the depot, is answered by its step
 module _ (N : ℕ) (P : Policy) (w : History) (y : ℕ) (m : Contents) (code : m.code ≡ P.code)
@@ -175,7 +175,7 @@ module _ (N : ℕ) (P : Policy) (w : History) (y : ℕ) (m : Contents) (code : m
       (λ _. by Q (λ e. absurd (both_ways _ (and_left _ _ old) e))
       (λ _. by Q (λ e. absurd (both_ways _ (and_left _ _ old) e))
       (λ _. by (λ k. Q (go (decided (kind_of m.kind) k sit))) (λ e. absurd (both_ways _ old₁ e))
-      (λ _. subst (λ u. Q (go u)) (sym (by_kind_lem (kind_of m.kind) _ sit)) h)))))))
+      (λ _. rw (by_kind_lem (kind_of m.kind) _ sit) h)))))))
     where
       go : Step → Outcome
       go u = carried a s₁ m.leader m.sender m.number m.entries P (strikes a m) u
@@ -193,15 +193,14 @@ module _ {N : ℕ} (P : Policy) (x L n y : ℕ) {w : History} (g : Safe N w) (l 
 
   reply : (t : State) (k : Kind) → (t.rows L).number ≡ n → IsAnswer k →
       Replies P x L n y (mail (site_of N P y) t k (mark x) L [])
-  reply t k e f = subst (Replies P x L n y) (sym (mail_some (site_of N P y) t k (mark x) L [] x (mark_self x)))
-      (record {
-        from = refl;
-        lead = refl;
-        about = e;
-        to = mark_self x;
-        good = subst IsAnswer (sym (kind_back k)) f;
-        code = refl;
-      })
+  reply t k e f = rw (mail_some (site_of N P y) t k (mark x) L [] x (mark_self x)) (record {
+    from = refl;
+    lead = refl;
+    about = e;
+    to = mark_self x;
+    good = rw (kind_back k) f;
+    code = refl;
+  })
 
   module _ (c : ℕ) (v : Bool) (es : List Entry) where
     abbrev sʸ : State
@@ -241,10 +240,7 @@ module _ {N : ℕ} (P : Policy) (x L n y : ℕ) {w : History} (g : Safe N w) (l 
       let v = strikes (site_of N P y) (query to es) in
       stepped N P w y (query to es) refl t x<N L<N (λ q. y≢x (sym q)) (sym (pinned g l x L n b y h))
       (λ r. Replies P x L n y (sends r))
-      (subst (λ k. Replies P x L n y
-      (sends (carried (site_of N P y) s' L x n es P v
-      (by_kind k (standing w y L) (situation (site_of N P y) s' L x n es)))))
-      (sym (kind_back kinds.Query)) (query_told s'.owing v es))
+      (rw (kind_back kinds.Query) (query_told s'.owing v es))
 
   -- an answer that arrives at x ends the handover there or is heard
   abbrev Heard : Outcome → Type 0
@@ -288,8 +284,8 @@ module _ {N : ℕ} (P : Policy) (x L n y : ℕ) {w : History} (g : Safe N w) (l 
 
   pub arrives : (r : Contents) → Reply P x L n y r → Heard (take P (site_of N P x) (w.at x) r)
   arrives r f =
-      stepped N P w x r f.code f.to (subst (λ z. z < N) (sym f.from) y<N)
-      (subst (λ z. z < N) (sym f.lead) L<N)
+      stepped N P w x r f.code f.to (rw f.from y<N)
+      (rw f.lead L<N)
       (λ q. y≢x (sym f.from ∙ q)) (f.about ∙ (sym (at_n g l x L n b) ∙ ap (number w x) (sym f.lead))) Heard
       (subst₃
       (λ L' y' n'. Heard (carried (site_of N P x) s' L' y' n' r.entries P (strikes (site_of N P x) r)
@@ -302,4 +298,4 @@ module _ {N : ℕ} (P : Policy) (x L n y : ℕ) {w : History} (g : Safe N w) (l 
 
       subst₃ : (Q : ℕ → ℕ → ℕ → Type 0) {a b c d e f : ℕ} → a ≡ b → c ≡ d → e ≡ f → Q a c e → Q b d f
       subst₃ Q {b = b} {c = c} {e = e} {f = f} p q r h =
-          subst (λ u. Q b u f) q (subst (λ u. Q b c u) r (subst (λ u. Q u c e) p h))
+          rw q at (rw r at (rw p at h))

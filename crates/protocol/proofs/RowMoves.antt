@@ -1,13 +1,13 @@
 -- Every effect leaves all rows as they were or moves one: the row in which the depot is engaged, or a new number where
 -- it is engaged in none.
-use Rattle.std.proofs.Common.{◌≡◌, ℕ, ◌<◌, ◌≤◌, true, ◌⊎◌, List, sym, refl, ap, ◌∙◌, subst, ap₂, inl, inr, arith}
+use Rattle.std.proofs.Common.{◌≡◌, ℕ, ◌<◌, ◌≤◌, ◌⊎◌, List, sym, refl, ap, ◌∙◌, ap₂, inl, inr, arith}
 use Rattle.entries.specs.declared.lists.Entry.{Entry}
 use Rattle.entries.specs.Sets.{has}
 use Rattle.entries.specs.Lists.{on, entry_of}
 use Rattle.protocol.specs.Law.{HasAccepted, Engages}
 use Rattle.protocol.specs.Listing.{every}
 use Rattle.protocol.specs.Policy.{Policy}
-use Rattle.protocol.specs.State.{State, upd, pair}
+use Rattle.protocol.specs.State.{State, upd}
 use Rattle.protocol.proofs.InSets.{add_tells, of_mark, mark_self, in_pair, self_pair, head_pair, add_keeps}
 use Rattle.protocol.proofs.Tests.{every_one, not_every}
 use Rattle.protocol.proofs.History.{History, site_of}
@@ -80,7 +80,7 @@ module _ {N : ℕ} {w : History} {d : ℕ} (d<N : d < N) (g : Safe N w) where
           me = k.me;
           mine = k.mine;
           self = self_pair (site_of N P d) L;
-          head = subst (λ u. has (pair (site_of N P d) L) u ≡ true) (sym m) (head_pair (site_of N P d) L);
+          head = rw m (head_pair (site_of N P d) L);
           waits = not_every _ _ _ (λ x q. elim (in_pair (site_of N P d) L x q) [
             | inl u ↦ rw u k.self
             | inr u ↦ rw (u, ← m) k.head

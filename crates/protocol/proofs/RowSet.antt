@@ -26,7 +26,7 @@ idle a s law h L e = not_engaged a s h L ((law.rows.row L).low e.0) e
 pub row_set : (s : State) (L n k : ℕ) → 1 ≤ k → 1 ≤ (upd s.rows L (record { number = n; standing = k }) L).standing
 row_set s L n k h =
     elim (upd_tells s.rows L (record { number = n; standing = k }) L) [
-      | inl u ↦ subst (λ r. 1 ≤ r.standing) (sym u.1) h
+      | inl u ↦ rw u.1 h
       | inr u ↦ absurd (u.0 refl)
     ]
 
@@ -68,23 +68,23 @@ module _ (a : Site) (s t : State) (L m k : ℕ) (law : Law a s) (h : Turned a s 
   row_law : (M : ℕ) → LawfulRow a.n M (t.rows M)
   row_law M =
       elim (at M) [
-        | inl (e, q) ↦ subst (LawfulRow a.n M) (sym q) (record {
-          low = λ _. subst (λ x. x < a.n) (sym e) h.low;
+        | inl (e, q) ↦ rw q (record {
+          low = λ _. rw e h.low;
           most = h.most;
           number_high = h.number_high;
           number_none = λ z. absurd (omega arith);
           number_some = λ _. h.number_some;
         })
-        | inr (e, q) ↦ subst (LawfulRow a.n M) (sym q) (law.rows.row M)
+        | inr (e, q) ↦ rw q (law.rows.row M)
       ]
 
   only : (M : ℕ) → Engages (t.rows M).standing → M ≡ L
-  only M e = elim (at M) [ inl (u, _) ↦ u | inr (u, q) ↦ h.lone M (subst (λ r. Engages r.standing) q e) ]
+  only M e = elim (at M) [ inl (u, _) ↦ u | inr (u, q) ↦ h.lone M (rw q at e) ]
 
   -- the row M, where it stands at j, is the one that was set
   same_row : (M j : ℕ) → Engages j → (t.rows M).standing ≡ j → (M ≡ L) × (k ≡ j)
   same_row M j f e =
-      let q = only M (subst Engages (sym e) f) in
+      let q = only M (rw e f) in
       (q, sym stands_at ∙ (ap (λ x. (t.rows x).standing) (sym q) ∙ e))
 
   own_row : (L ≡ a.depot → ⊥) → t.rows a.depot ≡ s.rows a.depot
@@ -95,8 +95,8 @@ module _ (a : Site) (s t : State) (L m k : ℕ) (law : Law a s) (h : Turned a s 
       elim h.owes [
         | inl z ↦ inl z
         | inr (inl (q, u)) ↦
-            inr (subst (λ x. HasAccepted (t.rows x).standing) q (subst HasAccepted (sym stands_at) u))
-        | inr (inr (q, u)) ↦ inr (subst (λ r. HasAccepted r.standing) (sym (own_row q)) u)
+            inr (rw q at (subst HasAccepted (sym stands_at) u))
+        | inr (inr (q, u)) ↦ inr (rw (own_row q) u)
       ]
 
   pub turned_law : Law a t
@@ -108,12 +108,12 @@ module _ (a : Site) (s t : State) (L m k : ℕ) (law : Law a s) (h : Turned a s 
           stock = h.stock;
           tray = h.tray;
           wish = h.wish;
-          tray_empty = λ e. h.tray_empty (λ g. not_engaged a t e L h.low (subst Engages (sym stands_at) g));
+          tray_empty = λ e. h.tray_empty (λ g. not_engaged a t e L h.low (rw stands_at g));
         };
         lists = record {
           bound = λ M e.
               let (q, j) = same_row M 2 (omega arith) e in
-              subst (λ x. LawfulBound a x t.shelf t.wish t.list t.heard) (sym q) (h.bound j);
+              rw q (h.bound j);
           unbound = λ f. h.unbound (λ e. f L (stands_at ∙ e));
           gathering = λ e. let (q, j) = same_row a.depot 1 (omega arith) e in h.gathering j (sym q);
           ungathered = λ f. h.ungathered (λ e q. f (ap (λ x. (t.rows x).standing) (sym q) ∙ (stands_at ∙ e)));

@@ -89,8 +89,7 @@ module _ {N : ℕ} {w : History} {d : ℕ} (g : Safe N w) {s : State} (mv : RowM
       go (still e f) = let q = (g.own d).now L in same (grind (arith, nat_tests))
       go (moves M m k pos e lt up only t f) =
           elim (at_or L n) [
-            | inl (a, b, c) ↦ subst (λ u. StandingMove w d L n (w.past d L n) u) (sym c)
-                (rw (a, b) t)
+            | inl (a, b, c) ↦ rw c (rw (a, b) t)
             | inr c ↦ same c
           ]
         where
@@ -149,7 +148,7 @@ module _ {N : ℕ} {w : History} {d : ℕ} (g : Safe N w) {s : State} (mv : RowM
       go k =
           let a : Engages (w.past d L n) = omega arith in
           let q = (g.own d).live L n a in
-          let b : Engages (standing w d L) = subst Engages (ap (w.past d L) (sym q) ∙ (g.own d).now L) a in
+          let b : Engages (standing w d L) = rw (ap (w.past d L) (sym q) ∙ (g.own d).now L) at a in
           engaged L b ∙ q
 
   pub own_d : OwnPast (w'.past d) s
@@ -234,8 +233,8 @@ module _ {N : ℕ} {w : History} {d : ℕ} (g : Safe N w) {s : State} (mv : RowM
       go : Held w d s L → HasAccepted (w'.past y L (s.rows L).number)
       go (old b m l f x) = accs y L _ (rw (← m) at (f y k))
       go (new b c f x) = elim (f y k) [
-        | inl e ↦ subst (λ z. HasAccepted (w'.past z L (s.rows L).number)) (sym e) acc_d
-        | inr e ↦ subst (λ z. HasAccepted (w'.past z L (s.rows L).number)) (sym e) (led_d L _ acc_d)
+        | inl e ↦ rw e acc_d
+        | inr e ↦ rw e (led_d L _ acc_d)
       ]
 
   held_d : (L : ℕ) → (s.rows L).standing ≡ 2 → HoldsList d L s
@@ -276,7 +275,7 @@ module _ {N : ℕ} {w : History} {d : ℕ} (g : Safe N w) {s : State} (mv : RowM
     | binds b e c ↦ absurd (omega arith)
     | refuses b e ↦ absurd (omega arith)
     | settles b e c f m ↦ elim (f y (rw (lists_kept L n c) at k))
-        [ inl u ↦ subst (λ z. HasAccepted (w'.past z L n)) (sym u) (omega arith) | inr u ↦ accs y L n u ]
+        [ inl u ↦ rw u (omega arith) | inr u ↦ accs y L n u ]
     | drops b e c z f q ↦ absurd (omega arith)
   ]
 

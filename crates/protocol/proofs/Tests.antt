@@ -1,5 +1,5 @@
 -- Functions changed at a place, and tests over numbers below a limit and over the depots of a list, told as cases.
-use Rattle.std.proofs.Common.{◌≡◌, ℕ, zero, suc, ◌<◌, Bool, true, false, cond, ◌&&◌, eqb, ◌⊎◌, List, [], ◌∷◌, sym, refl, subst, inl, inr, arith}
+use Rattle.std.proofs.Common.{◌≡◌, ℕ, zero, suc, ◌<◌, Bool, true, false, cond, ◌&&◌, eqb, ◌⊎◌, List, [], ◌∷◌, refl, inl, inr, arith}
 use Rattle.std.specs.Bool.{Decides}
 use Rattle.std.proofs.lemmas.Bool.Decides.{Decides-below_or}
 use Rattle.std.proofs.lemmas.Bool.{false_from_ne_true, eqb-true, eqb-false, eq-eqb, cond_both, and_parts, and_cases, or_cases, or_left, or_right, cases_eq, and_from, both_ways}
@@ -26,7 +26,7 @@ pub every_one : (ℓ : List Entry) (p : ℕ → Bool) (y : ℕ) → every ℓ p 
 unfolding every on
 every_one [] p y h k = cc
 every_one (e ∷ ℓ) p y h k = elim (or_cases (eqb e.depot y) (on ℓ y) k) [
-  | inl q ↦ subst (λ z. p z ≡ true) (eqb-true e.depot y q) (and_parts (p e.depot) (every ℓ p) h).0
+  | inl q ↦ rw (eqb-true e.depot y q) at (and_parts (p e.depot) (every ℓ p) h).0
   | inr q ↦ every_one ℓ p y (and_parts (p e.depot) (every ℓ p) h).1 q
 ]
 
@@ -56,7 +56,7 @@ found_one zero p k l h = absurd (omega arith)
 found_one (suc n) p k l h =
     by (λ m. p m ≡ true) (λ e. e) (λ e. found_one n p k
     (elim (cases_eq k n) [
-      | inl q ↦ absurd (both_ways _ (subst (λ u. p u ≡ false) (sym q) e) h)
+      | inl q ↦ absurd (both_ways _ (rw q e) h)
       | inr q ↦ omega arith
     ]) h)
 

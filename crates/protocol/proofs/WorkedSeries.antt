@@ -44,7 +44,7 @@ unfolding limits.max_depots has mark union add less everyone on entry_of every n
 worked =
     record {
       policy = record { coded = (omega arith, omega arith); shares = wishes_lawful };
-      opening = record { some = omega arith; few = (omega arith); limit = omega arith };
+      opening = record { some = omega arith; few = omega arith; limit = omega arith };
       drafted = refl;
       allotted_0 = refl;
       allotted_1 = refl;
