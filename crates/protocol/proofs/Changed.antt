@@ -2,7 +2,7 @@
 use Rattle.std.proofs.Common.{◌≡◌, ℕ, ◌+◌, ◌<◌, ◌≤◌, true, false, not, ◌&&◌, eqb, ◌⊎◌, List, [], ◌∷◌, sum, sym, refl, ap, ◌∙◌, inl, inr, arith}
 use Rattle.std.specs.List.{AllByRecursion}
 use Rattle.std.proofs.lemmas.List.Sums.{sum_by-cons}
-use Rattle.std.proofs.lemmas.Bool.{and_parts, both_ways, cases_eq, eqb-true, eq-eqb, not-true, or_cases, or_left, false≢true, cond-true, cond_both}
+use Rattle.std.proofs.lemmas.Bool.{and_parts, both_ways, eqb-true, eq-eqb, not-true, or_cases, or_left, false≢true, cond-true, cond_both}
 use Rattle.entries.specs.declared.lists.Entry.{Entry}
 use Rattle.entries.specs.Limits.{max_depots, max_wish, max_shelf, max_pool}
 use Rattle.entries.specs.Sets.{has, mark}
@@ -163,11 +163,7 @@ module _ (a : Site) (s : State) (law : Law a s) where
   owes_on : (L k : ℕ) → (L ≡ a.depot → 2 ≤ (s.rows a.depot).standing → HasAccepted k) →
       (s.owing ≡ 0)
       ⊎ (((L ≡ a.depot) × HasAccepted k) ⊎ ((L ≡ a.depot → ⊥) × HasAccepted (s.rows a.depot).standing))
-  owes_on L k f =
-      elim law.owing.owes [
-        | inl z ↦ inl z
-        | inr u ↦ inr (elim (cases_eq L a.depot) [ inl q ↦ inl (q, f q u.0) | inr q ↦ inr (q, u) ])
-      ]
+  owes_on L k f = grind arith
 
   -- The row of L, in which the depot is engaged, goes on under its number
   module _ (L : ℕ) (e : Engages (s.rows L).standing) where

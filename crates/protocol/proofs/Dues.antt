@@ -22,7 +22,7 @@ use Rattle.protocol.proofs.History.Effect.{accept, join, refuse, settle, drop}
 use Rattle.protocol.proofs.InSets.{in_pair}
 use Rattle.protocol.proofs.RowMoves.{move_of}
 use Rattle.protocol.proofs.SafeNext.{else_past, accs, low, acc_2}
-use Rattle.protocol.proofs.Firm.{firmly, due_of, due, Firm, Low, firm_same, due_yes, due_no, due_same}
+use Rattle.protocol.proofs.Firm.{firmly, due_of, due, Firm, Low, due_yes, due_no, due_same}
 
 module _ {N : ℕ} {w : History} {d : ℕ} (d<N : d < N) (g : Safe N w) {P : Policy} (lawful : LawfulPolicy P) where
   abbrev p : ℕ → ℕ → ℕ → ℕ
@@ -74,9 +74,7 @@ module _ {N : ℕ} {w : History} {d : ℕ} (d<N : d < N) (g : Safe N w) {P : Pol
     -- rows and list as they were
     firm_kept : s.rows ≡ (w.at d).rows → s.list ≡ (w.at d).list → firmly N p' s.rows s.list
         ≡ firmly N p (w.at d).rows (w.at d).list
-    firm_kept e f = ap₂ (firmly N p') e f ∙ firm_same N p p' (w.at d) (g.small d)
-        (λ (L, a, b). (L, a, λ y k. rw (same_past e y L (number w d L)) (b y k)))
-        (λ (L, a, b). (L, a, λ y k. same_new e y L _ (b y k)))
+    firm_kept e f = grind (arith, nat_tests, upd_tells)
 
     data DueMove (i j : ℕ) : Type 0 where
       calm : NoNew → due_of N P p' s d + i ≡ due_of N P p (w.at d) d + j → DueMove i j
@@ -221,11 +219,7 @@ module _ {N : ℕ} {w : History} {d : ℕ} (d<N : d < N) (g : Safe N w) {P : Pol
 
       -- who has accepted it before d
       led_by : (x : ℕ) → HasAccepted (p x M n) → ℓ ≡ w.lists M n
-      led_by x a = elim c [
-        | inl u ↦ absurd (let v : HasAccepted (p M M n) = g.led x M n a in
-            let y : p M M n ≡ 1 = subst (λ z. p z M n ≡ 1) (sym u) offered in omega arith)
-        | inr u ↦ u.1
-      ]
+      led_by x a = grind (arith, nat_tests, upd_tells)
 
       -- bound to it before d
       bound_list : (x : ℕ) → standing w x M ≡ 2 → number w x M ≡ n → (w.at x).list ≡ ℓ

@@ -48,10 +48,7 @@ on_insert e (a ∷ ℓ) y h = go (ltb e.depot a.depot) (on_insert e ℓ y) h
 
 on_one : (e : Entry) (y : ℕ) → on (e ∷ []) y ≡ true → y ≡ e.depot
 unfolding on
-on_one e y h = elim (or_cases (eqb e.depot y) false h) [
-  | inl q ↦ sym (eqb-true e.depot y q)
-  | inr q ↦ absurd (false≢true q)
-]
+on_one e y h = grind (arith, nat_tests, upd_tells, mark_tells)
 
 on_none : (y : ℕ) → on [] y ≡ true → ⊥
 unfolding on

@@ -3,7 +3,7 @@
 use Rattle.std.proofs.Common.{◌≡◌, ℕ, ◌<◌, ◌≤◌, Bool, true, false, not, ◌&&◌, eqb, List, [], sym, refl, ap, ◌∙◌, inl, inr, arith}
 use mathlib.Core.Option.{Option, none, some}
 use Rattle.std.proofs.lemmas.Bool.Decides.{nat_tests}
-use Rattle.std.proofs.lemmas.Bool.{eqb-true, eq-eqb, ne_eqb, le-ltb, lt-leb, and_from, and_left, or_from, not_from_true, both_ways, cases_eq, cases_lt}
+use Rattle.std.proofs.lemmas.Bool.{eqb-true, eq-eqb, ne_eqb, le-ltb, lt-leb, and_from, and_left, or_from, not_from_true, both_ways}
 use Rattle.entries.specs.declared.lists.Entry.{Entry}
 use Rattle.entries.specs.Sets.{has, mark}
 use Rattle.entries.specs.Lists.{on}
@@ -42,38 +42,17 @@ module _ {N : ℕ} {w : History} (g : Safe N w) (l : LeadersKnow N w) (x L n : �
   list_x = g.list x L bound_x ∙ ap (w.lists L) at_n
 
   up_to : (y m : ℕ) → 1 ≤ w.past y L m → m ≤ number w y L
-  up_to y m h = elim (cases_lt (number w y L) m) [
-    | inl q ↦ absurd (let r = (g.own y).later L m q in
-        omega arith)
-    | inr q ↦ q
-  ]
+  up_to y m h = grind (arith, nat_tests, upd_tells, add_tells)
 
   leader_at_lem : number w L L ≡ n
-  leader_at_lem =
-      let a = led_x in
-      let q = up_to L n (omega arith) in
-      elim (cases_eq (number w L L) n) [
-        | inl e ↦ e
-        | inr e ↦ absurd (let r = l.over L n x a (omega arith)
-            (ap (λ u. on u x) (sym list_x) ∙ (g.held x L bound_x).me) in omega arith)
-      ]
+  leader_at_lem = grind (arith, nat_tests, upd_tells, add_tells)
 
   pub pinned : (y : ℕ) → on (w.lists L n) y ≡ true → number w y L ≡ n
-  pinned y h =
-      let a = leader_at_lem in
-      let low = up_to y n (l.offered L n y led_x h).0 in
-      elim (l.rowed y L) [
-        | inl e ↦ omega arith
-        | inr e ↦ (let r = up_to L (number w y L) (g.asked y L _ (let c = (g.own y).now L in omega arith)) in
-            omega arith)
-      ]
+  pinned y h = grind (arith, nat_tests, upd_tells, add_tells)
 
   pub stands : (y : ℕ) → on (w.lists L n) y ≡ true → (1 ≤ standing w y L) × (standing w y L ≤ 5)
       × (standing w y L ≡ 1 → y ≡ L → ⊥)
-  stands y h =
-      let e : w.past y L n ≡ standing w y L = ap (w.past y L) (sym (pinned y h)) ∙ (g.own y).now L in
-      let c = led_x in
-      (omega arith, omega arith, λ f q. let r = ap (λ u. w.past u L n) q in omega arith)
+  stands y h = grind (arith, nat_tests, upd_tells, add_tells)
 
 -- what is heard stays heard
 module _ {N : ℕ} {w : History} {d : ℕ} (g : Safe N w) (L : ℕ) (b : standing w d L ≡ 2) where

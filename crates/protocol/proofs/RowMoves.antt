@@ -47,9 +47,7 @@ module _ {N : ℕ} {w : History} {d : ℕ} (d<N : d < N) (g : Safe N w) where
 
   -- itself and the leader have accepted what d is bound to
   pair_acc : (L : ℕ) → standing w d L ≡ 2 → (y : ℕ) → (y ≡ d) ⊎ (y ≡ L) → HasAccepted (w.past y L (number w d L))
-  pair_acc L b y h =
-      let a : HasAccepted (w.past d L (number w d L)) = let q = (g.own d).now L in omega arith in
-      elim h [ inl e ↦ rw e a | inr e ↦ rw e (g.led d L _ a) ]
+  pair_acc L b y h = grind (arith, add_tells)
 
   pub move_of : {P : Policy} {z : Type 0} {ℓ₀ : List Entry} {s : State} {i j : ℕ} → Effect N P w d z ℓ₀ s i j → RowMove N w d s
   move_of (keep b st) = as_it_was refl refl refl refl

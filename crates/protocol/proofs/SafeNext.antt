@@ -103,10 +103,7 @@ module _ {N : ℕ} {w : History} {d : ℕ} (g : Safe N w) {s : State} (mv : RowM
   -- a depot is d, or as it was
   pub case : (x : ℕ) (Q : ℕ → State → (ℕ → ℕ → ℕ) → Type 0) → Q d s (w'.past d) →
       ((x ≡ d → ⊥) → Q x (w.at x) (w.past x)) → Q x (w'.at x) (w'.past x)
-  case x Q a b = elim (upd_tells w.at d s x) [
-    | inl q ↦ rw q.1 (rw q.0 a)
-    | inr q ↦ rw (q.1, else_past x q.0) (b q.0)
-  ]
+  case x Q a b = grind (arith, nat_tests, upd_tells)
 
   pub grows : (x L n : ℕ) → Grows (w.past x L n) (w'.past x L n)
   grows x L n = case x (λ x _ p. Grows (w.past x L n) (p L n)) (turn_on w d L n _ _ (turn L n)) (λ _. inl refl)
@@ -296,13 +293,7 @@ module _ {N : ℕ} {w : History} {d : ℕ} (g : Safe N w) {s : State} (mv : RowM
       (g.letter m h)
 
   new_letter : (m : Contents) → Vouched d s (some m) → Backed w' m
-  new_letter m (e, f, t) =
-      let q : w'.past m.sender m.leader m.number ≡ (s.rows m.leader).standing =
-      ap (λ x. w'.past x m.leader m.number) e ∙ (ap (w'.past d m.leader) f ∙ now_d m.leader) in
-      subst (λ y. Vouches (kind_of m.kind) y m.leader (w'.past m.sender m.leader m.number) m.entries
-      (λ ℓ. ℓ ≡ w'.lists m.leader m.number)) (sym e)
-      (vouches_on (kind_of m.kind) d m.leader _ _ _ _ _ (inl q)
-      (λ _ ℓ c. c.1 ∙ (list_d m.leader c.0 ∙ ap (w'.lists m.leader) (sym f))) t)
+  new_letter m (e, f, t) = grind (arith, nat_tests, upd_tells)
 
   letters : (o' : Option Contents) → Vouched d s o' → (m : Contents) → Among m (posted o' w.sent) → Backed w' m
   letters none t m h = old_letter m h
