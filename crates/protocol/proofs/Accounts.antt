@@ -3,7 +3,7 @@
 use Rattle.std.proofs.Common.{◌≡◌, ℕ, ◌+◌, ◌≤◌, Bool, true, false, cond, ◌&&◌, ◌||◌, eqb, ◌⊎◌, List, [], ◌∷◌, sym, refl, ap, ◌∙◌, inl, inr, arith}
 use mathlib.Core.Path.{fun_ext}
 use Rattle.std.proofs.lemmas.Bool.Decides.{nat_tests}
-use Rattle.std.proofs.lemmas.Bool.{eq-eqb, ne_eqb, and_from, and_right, cases_eq, cases_Bool, cond-true, cond-false}
+use Rattle.std.proofs.lemmas.Bool.{eq-eqb, ne_eqb, and_from, cases_eq, cases_Bool, cond-true, cond-false}
 use Rattle.entries.specs.declared.lists.Entry.{Entry}
 use Rattle.policies.specs.Shares.{share_of}
 use Rattle.protocol.specs.Calls.{Call, Hand, once, accepts, ends_at}
@@ -38,11 +38,11 @@ ends_same k r h = grind (arith, nat_tests)
 
 -- nor does anything else that is tested with it count
 never : (n : ℕ) (c e f : Bool) → f ≡ false → n + once (c && (e && f)) ≡ n
-never n c e f h = let q = ap once (and_right c _ (and_right e f h)) in omega arith
+never n c e f h = grind (arith, nat_tests)
 
 pick_never : {A : Type 0} (c e f : Bool) (x y : A) → f ≡ false → pick (c && (e && f)) x y ≡ y
 unfolding pick
-pick_never c e f x y h = cond-false _ x y (and_right c _ (and_right e f h))
+pick_never c e f x y h = grind (arith, nat_tests)
 
 pub record Accounted {P : Policy} {o : Opening} {w : Stage} (s : Series P o (just_opened o) w) : Type 0 where
   pub settled : (x L n : ℕ) → w.settled x L n ≡ once (eqb (past_of s x L n) 4)
@@ -175,12 +175,11 @@ module _ {P : Policy} (lawful : LawfulPolicy P) {o : Opening} where
         ap (any o.n)
         (fun_ext (λ L. elim (cases_eq ((w.at x).rows L).standing 2) [
           | inl e ↦ ap (λ b. eqb ((w.at x).rows L).standing 2 && b) (stands_is x L e)
-          | inr e ↦ off _ (stands w L ((w.at x).rows L).number (w.at x).list)
-              (every (w.at x).list (λ y. has_accepted (past_of s y L ((w.at x).rows L).number))) (ne_eqb _ 2 e)
+          | inr e ↦ grind (arith, nat_tests)
         ]))
       where
         off : (b c d : Bool) → b ≡ false → (b && c) ≡ (b && d)
-        off b c d e = ap (λ u. u && c) e ∙ sym (ap (λ u. u && d) e)
+        off b c d e = grind (arith, nat_tests)
 
     due_is : (x : ℕ) → due P o w x ≡ dueBy o.n P (history s) x
     unfolding due due_of pick

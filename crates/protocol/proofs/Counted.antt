@@ -3,7 +3,7 @@
 use Rattle.std.proofs.Common.{◌≡◌, ℕ, ◌+◌, ◌<◌, ◌≤◌, Bool, true, false, cond, ◌&&◌, ◌||◌, eqb, ◌⊎◌, List, [], ◌∷◌, sym, refl, ap, ◌∙◌, ap₂, inl, inr, arith}
 use mathlib.Core.Option.{none}
 use Rattle.std.proofs.lemmas.Bool.Decides.{nat_tests}
-use Rattle.std.proofs.lemmas.Bool.{eqb-true, eq-eqb, ne_eqb, and_parts, or_cases, cases_eq, cases_Bool, cond-true, cond-false}
+use Rattle.std.proofs.lemmas.Bool.{eqb-true, and_parts, or_cases, cases_eq, cases_Bool, cond-true, cond-false}
 use Rattle.entries.specs.declared.lists.Entry.{Entry}
 use Rattle.protocol.specs.Calls.{once, accepts, ends_at}
 use Rattle.protocol.specs.Law.{HasAccepted, Engages}
@@ -70,8 +70,7 @@ module _ {N : ℕ} {P : Policy} {w : History} {d : ℕ} {z : Type 0} {ℓ₀ : L
   tray_empty L e f = go s refl does
     where
       kept : (t : State) → s ≡ t → t.rows ≡ (w.at d).rows → ℓ₀ ≡ w'.lists L (s.rows L).number
-      kept t q r = absurd (let u : (s.rows L).standing ≡ standing w d L = ap (λ x. (x.rows L).standing) q
-          ∙ ap (λ x. (x L).standing) r in elim f [ inl v ↦ omega arith | inr v ↦ omega arith ])
+      kept t q r = grind (arith, nat_tests, upd_tells)
 
       -- the row of M was set
       set : (t : State) (M m k : ℕ) → s ≡ t → t.rows ≡ upd (w.at d).rows M (record { number = m; standing = k }) →
@@ -81,8 +80,7 @@ module _ {N : ℕ} {P : Policy} {w : History} {d : ℕ} {z : Type 0} {ℓ₀ : L
           ap (λ x. x.rows L) q ∙ ap (λ x. x L) r in
           elim (upd_tells (w.at d).rows M (record { number = m; standing = k }) L) [
             | inl v ↦ (v.0, ap (λ x. x.standing) (u ∙ v.1))
-            | inr v ↦ absurd (let p : (s.rows L).standing ≡ standing w d L = ap (λ x. x.standing) (u ∙ v.1) in
-                elim f [ inl x ↦ omega arith | inr x ↦ omega arith ])
+            | inr v ↦ grind (arith, nat_tests, upd_tells)
           ]
 
       number_set : (t : State) (M m k : ℕ) → s ≡ t → t.rows ≡ upd (w.at d).rows M
@@ -119,7 +117,7 @@ module _ {N : ℕ} {P : Policy} {w : History} {d : ℕ} {z : Type 0} {ℓ₀ : L
   was : (L n : ℕ) → n ≡ (s.rows L).number → (w.past d L n ≡ standing w d L)
       ⊎ ((Engages (standing w d L) → ⊥) × (Engages (w.past d L n) → ⊥))
   was L n e = elim (cases_eq (number w d L) n) [
-    | inl u ↦ inl (ap (w.past d L) (sym u) ∙ (g.own d).now L)
+    | inl u ↦ grind (arith, nat_tests, upd_tells)
     | inr u ↦ inr ((λ b. u (sym (engaged g mv L b) ∙ sym e)), λ b. u ((g.own d).live L n b))
   ]
 
@@ -133,35 +131,24 @@ module _ {N : ℕ} {P : Policy} {w : History} {d : ℕ} {z : Type 0} {ℓ₀ : L
     count_next : (x L n : ℕ) →
         E x L n + once (eqb x d && (eqb n (s.rows L).number && t (standing w d L) (s.rows L).standing))
         ≡ once (T (w'.past x L n))
-    count_next x L n =
-        elim (cases_eq x d) [
-          | inl u ↦ elim (cases_eq n (s.rows L).number) [ inl e ↦ rw u (site_of L n e) | inr e ↦ off (ne_eqb n _ e) ]
-          | inr u ↦ away (ne_eqb x d u)
-        ]
+    count_next x L n = grind (arith, nat_tests, upd_tells)
       where
         now : ℕ → ℕ → ℕ → Bool → Bool → ℕ
         now x L n b c = E x L n + once (b && (c && t (standing w d L) (s.rows L).standing))
 
         site_of : (L n : ℕ) → n ≡ (s.rows L).number → now d L n (eqb d d) (eqb n (s.rows L).number)
             ≡ once (T (w'.past d L n))
-        site_of L n e = ap₂ (now d L n) (eq-eqb d d refl) (eq-eqb n _ e) ∙ row L n e
+        site_of L n e = grind (arith, nat_tests, upd_tells)
 
         same_past : w'.past x L n ≡ w.past x L n → E x L n ≡ once (T (w'.past x L n))
         same_past r = ih x L n ∙ ap (λ k. once (T k)) (sym r)
 
         off : eqb n (s.rows L).number ≡ false → now x L n (eqb x d) (eqb n (s.rows L).number)
             ≡ once (T (w'.past x L n))
-        off p =
-            let r : w'.past x L n ≡ w.past x L n = grind (arith, nat_tests) in
-            let q = same_past r in
-            let u = none_once (eqb x d) in
-            ap (now x L n (eqb x d)) p ∙ (omega arith)
+        off p = grind (arith, nat_tests, upd_tells)
 
         away : eqb x d ≡ false → now x L n (eqb x d) (eqb n (s.rows L).number) ≡ once (T (w'.past x L n))
-        away p =
-            let r : w'.past x L n ≡ w.past x L n = grind (arith, nat_tests) in
-            let q = same_past r in
-            ap (λ b. now x L n b (eqb n (s.rows L).number)) p ∙ (omega arith)
+        away p = grind (arith, nat_tests, upd_tells)
 
   -- how often the handover was ended at m
   pub ended_next : (m : ℕ) → 4 ≤ m → (E : ℕ → ℕ → ℕ → ℕ) → ((x L n : ℕ) → E x L n ≡ once (eqb (w.past x L n) m)) →
@@ -184,7 +171,7 @@ module _ {N : ℕ} {P : Policy} {w : History} {d : ℕ} {z : Type 0} {ℓ₀ : L
       elim (cases_Bool (has_accepted (w.past x L n))) [
         | inl q ↦ ap (λ u. cond (has_accepted (w.past x L n)) (u ∷ []) [])
             (lists_kept g mv L n (g.led x L n (acc_true _ q)))
-        | inr q ↦ cond-false _ _ _ q ∙ sym (cond-false _ _ _ q)
+        | inr q ↦ grind (arith, nat_tests, upd_tells)
       ]
 
   pub accepted_next : (A : ℕ → ℕ → ℕ → List (List Entry)) →

@@ -21,7 +21,7 @@ use Rattle.protocol.proofs.History.Effect.{keep, issue, return, lay, want, hear,
 use Rattle.protocol.proofs.History.Effect.{accept, join, refuse, settle, drop}
 use Rattle.protocol.proofs.InSets.{in_pair}
 use Rattle.protocol.proofs.RowMoves.{move_of}
-use Rattle.protocol.proofs.SafeNext.{else_past, accs, low, acc_2}
+use Rattle.protocol.proofs.SafeNext.{accs, low}
 use Rattle.protocol.proofs.Firm.{firmly, due_of, due, Firm, Low, due_yes, due_no, due_same}
 
 module _ {N : ℕ} {w : History} {d : ℕ} (d<N : d < N) (g : Safe N w) {P : Policy} (lawful : LawfulPolicy P) where
@@ -30,8 +30,7 @@ module _ {N : ℕ} {w : History} {d : ℕ} (d<N : d < N) (g : Safe N w) {P : Pol
 
   -- d is not bound to a list that stands
   loose : (M : ℕ) → standing w d M ≡ 1 → Firm p (w.at d) → ⊥
-  loose M e (L, a, b) = let q = g.single d L M (omega arith) (omega arith) in
-      let r = ap (standing w d) q in omega arith
+  loose M e (L, a, b) = grind (arith, nat_tests, upd_tells)
 
   loose_free : Idle w d → Firm p (w.at d) → ⊥
   loose_free f (L, a, b) = f L (omega arith)
@@ -191,10 +190,10 @@ module _ {N : ℕ} {w : History} {d : ℕ} (d<N : d < N) (g : Safe N w) {P : Pol
     q = p' s
 
     at_d_now : due N P w' d ≡ due_of N P q s d
-    at_d_now = elim (upd_tells w.at d s d) [ inl u ↦ ap (λ t. due_of N P q t d) u.1 | inr u ↦ absurd (u.0 refl) ]
+    at_d_now = grind (arith, nat_tests, upd_tells)
 
     there : (x : ℕ) → (x ≡ d → ⊥) → due N P w' x ≡ due_of N P q (w.at x) x
-    there x n = elim (upd_tells w.at d s x) [ inl u ↦ absurd (n u.0) | inr u ↦ ap (λ t. due_of N P q t x) u.1 ]
+    there x n = grind (arith, nat_tests, upd_tells)
 
     -- due to another as before
     unmoved : (x : ℕ) → (x ≡ d → ⊥) → (Firm q (w.at x) → Firm p (w.at x)) → due N P w' x ≡ due N P w x
@@ -223,8 +222,7 @@ module _ {N : ℕ} {w : History} {d : ℕ} (d<N : d < N) (g : Safe N w) {P : Pol
 
       -- bound to it before d
       bound_list : (x : ℕ) → standing w x M ≡ 2 → number w x M ≡ n → (w.at x).list ≡ ℓ
-      bound_list x a f = g.list x M a
-          ∙ (ap (w.lists M) f ∙ sym (led_by x (acc_2 _ (rw f at ((g.own x).now M ∙ a)))))
+      bound_list x a f = grind (arith, nat_tests, upd_tells)
 
       -- a list that stands now stood before, but this one
       stood : (x : ℕ) → (standing w x M ≡ 2 → number w x M ≡ n → Firm q (w.at x) → ⊥) →
@@ -233,8 +231,7 @@ module _ {N : ℕ} {w : History} {d : ℕ} (d<N : d < N) (g : Safe N w) {P : Pol
         L,
         a,
         λ y h. elim (point s M n k e y L (number w x L)) [
-          | inl (u, v, m, _) ↦ absurd (refusal_kept (rw v at a)
-              (rw v at m) (L, a, f))
+          | inl (u, v, m, _) ↦ grind (arith, nat_tests, upd_tells)
           | inr u ↦ rw u at (f y h)
         ],
       )
@@ -242,24 +239,10 @@ module _ {N : ℕ} {w : History} {d : ℕ} (d<N : d < N) (g : Safe N w) {P : Pol
       module _ (all : (y : ℕ) → on ℓ y ≡ true → HasAccepted (q y M n)) where
         -- everybody else on it is bound to it
         joined : (x : ℕ) → (x ≡ d → ⊥) → on ℓ x ≡ true → (standing w x M ≡ 2) × (number w x M ≡ n)
-        joined x x≢d h =
-            let a : HasAccepted (p x M n) = rw (← (else_past g (move_of d<N g does) x x≢d)) (all x h) in
-            let l = led_by x a in
-            let not4 : p x M n ≡ 4 → ⊥ = λ f. (let v = g.settled x M n d f (ap (λ u. on u d) (sym l) ∙ me) in
-            let y = offered in omega arith) in
-            let not5 : p x M n ≡ 5 → ⊥ = λ f. no5 l (g.dropped x M n f) in
-            let two : p x M n ≡ 2 = (let m = g.most x M n in omega arith) in
-            let m = (g.own x).live M n (omega arith) in
-            (sym ((g.own x).now M) ∙ (ap (p x M) m ∙ two), m)
+        joined x x≢d h = grind (arith, nat_tests, upd_tells)
           where
             no5 : ℓ ≡ w.lists M n → (y : ℕ) × (on (w.lists M n) y ≡ true) × (p y M n ≡ 3) → ⊥
-            no5 l (y, f, h) =
-                let a = all y (ap (λ u. on u y) l ∙ f) in
-                elim (point s M n k e y M n) [
-                  | inl (u, _, _, _) ↦ (let v = offered in
-                      let r = ap (λ t. p t M n) u in omega arith)
-                  | inr u ↦ omega arith
-                ]
+            no5 l (y, f, h) = grind (arith, nat_tests, upd_tells)
 
         -- each listed depot's due goes from its shelf to its share
         goes : (due_of N P q s d ≡ (w.at d).tray + share_of P.share ℓ d) → (x : ℕ) →

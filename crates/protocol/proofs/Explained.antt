@@ -2,7 +2,7 @@
 -- through the refusals of each call, and for Receive through the lines of each kind.
 use Rattle.std.proofs.Common.{◌≡◌, ℕ, ◌<◌, ◌≤◌, Bool, true, false, not, ◌&&◌, ◌||◌, eqb, ltb, leb, ◌⊎◌, List, [], ◌∷◌, sym, refl, ap, ◌∙◌, subst, inl, inr, arith}
 use mathlib.Core.Option.{none}
-use Rattle.std.proofs.lemmas.Bool.{eqb-true, ltb-true, ltb-false, leb-false, and_parts, or_parts, not-false, both_ways, false≢true}
+use Rattle.std.proofs.lemmas.Bool.{eqb-true, ltb-true, ltb-false, and_parts, not-false, both_ways, false≢true}
 use Rattle.entries.specs.declared.lists.Entry.{Entry}
 use Rattle.entries.specs.Sets.{has, mark, add}
 use Rattle.entries.specs.Lists.{on}
@@ -287,9 +287,7 @@ module _ {N : ℕ} (P : Policy) {w : History} {d : ℕ} (z : Type 0) (ℓ₀ : L
       (λ asked. by Ok denied (λ free. step_explained m e₀ ok t (low x) up asked free))))))
     where
       low : (leb N m.sender || (leb N m.leader || eqb m.sender d)) ≡ false → m.leader < N
-      low x = leb-false N m.leader
-          (or_parts (leb N m.leader) (eqb m.sender d)
-          (or_parts (leb N m.sender) (leb N m.leader || eqb m.sender d) x).1).0
+      low x = grind (arith, upd_tells, mark_tells, add_tells)
 
   pub issue_explained : (n : ℕ) → Explained N P w d z ℓ₀ n 0 (issue a s₀ n)
   unfolding issue

@@ -1,6 +1,6 @@
 -- A Query that all have answered frees its sender, for good: each answer ended the handover there or was heard, a bound
 -- depot never has all heard, and a row never comes back to a handover.
-use Rattle.std.proofs.Common.{◌≡◌, ℕ, ◌<◌, ◌≤◌, true, List, [], sym, refl, ap, ◌∙◌, subst, ap₂, subst₂, inl, inr, arith}
+use Rattle.std.proofs.Common.{◌≡◌, ℕ, ◌<◌, ◌≤◌, true, List, [], sym, ap, ◌∙◌, subst, ap₂, subst₂, inl, inr, arith}
 use mathlib.Core.Option.{Option, none, some}
 use Rattle.std.proofs.lemmas.Bool.{cases_eq, eqb-true, both_ways, not-false}
 use Rattle.entries.specs.declared.lists.Entry.{Entry}
@@ -60,7 +60,7 @@ module _ {P : Policy} (lawful : LawfulPolicy P) {o : Opening} (ok : LawfulOpenin
         (d ≡ x → c ≡ Restart → ⊥) → has (w.at x).heard y ≡ true → has ((called P o w d c).at x).heard y ≡ true
     heard_next x L y b e f k =
         elim (still_or_handled lawful ok σ d c a) [
-          | inl q ↦ subst (λ u. has (u.at x).heard y ≡ true) (sym q) k
+          | inl q ↦ grind (arith, upd_tells)
           | inr q ↦ elim (upd_tells w.at d t x) [
             | inl (u, v) ↦ rw v (heard_on h.safe L (rw u at b) (f (sym u))
                 q.explained.effect (sym (ap (λ z. (z.rows L).standing) v) ∙ e) y
@@ -166,7 +166,7 @@ module _ {P : Policy} (lawful : LawfulPolicy P) {o : Opening} (ok : LawfulOpenin
           rw u q
         where
           at_x : (w : Stage) (x : ℕ) (t : State) → upd w.at x t x ≡ t
-          at_x w x t = elim (upd_tells w.at x t x) [ inl u ↦ u.1 | inr u ↦ absurd (u.0 refl) ]
+          at_x w x t = grind (arith, upd_tells)
 
       heard_is : {w : Stage} (s : Series P o v₁ w) → NoRestart x s → past_of (all s) x L n ≡ 2 → CameBack m y x s →
           has (w.at x).heard y ≡ true
@@ -223,6 +223,5 @@ module _ {P : Policy} (lawful : LawfulPolicy P) {o : Opening} (ok : LawfulOpenin
       free r x m a f s sp all_back u s'
       (record {
         accepted = ap (λ z. ((u.at x).rows z).standing) q ∙ c.accepted;
-        number = ap (λ z. ((u.at x).rows z).number) q
-            ∙ (c.number ∙ (sym b.number ∙ ap (λ z. ((v.at x).rows z).number) (sym q)));
+        number = grind (arith, upd_tells);
       })

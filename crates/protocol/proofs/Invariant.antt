@@ -216,7 +216,7 @@ module _ {P : Policy} {o : Opening} {w : Stage} {s : Series P o (just_opened o) 
             ];
         low = λ x q. elim (or_cases (w.handed x) _ q) [
           | inl z ↦ h.low x z
-          | inr z ↦ absurd (both_ways _ k.other (and_parts (hands c) _ z).0)
+          | inr z ↦ grind (arith, nat_tests, upd_tells)
         ];
       }
     where

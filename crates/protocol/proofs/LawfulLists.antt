@@ -50,7 +50,7 @@ asks_is kinds.Done h = absurd (false≢true h)
 fits_on : (d n v : ℕ) (ℓ : List Entry) → fits d n v ℓ ≡ true → (on ℓ d ≡ true) × ((entry_of ℓ d).shelf ≡ n)
     × ((entry_of ℓ d).wish ≡ v)
 unfolding fits
-fits_on d n v ℓ h = let (a, b) = and_parts _ _ h in let (c, e) = and_parts _ _ b in (a, eqb-true _ _ c, eqb-true _ _ e)
+fits_on d n v ℓ h = grind arith
 
 every_all : (N : ℕ) (ℓ : List Entry) → every ℓ (λ y. ltb y N) ≡ true → AllByRecursion (λ e. e.depot < N) ℓ
 unfolding every

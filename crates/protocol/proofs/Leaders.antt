@@ -4,7 +4,7 @@ use Rattle.std.proofs.Common.{◌≡◌, ℕ, ◌<◌, ◌≤◌, Bool, true, fa
 use mathlib.Core.Logic.{⊎_map}
 use mathlib.Core.Option.{Option, none}
 use Rattle.std.proofs.lemmas.Bool.Decides.{nat_tests}
-use Rattle.std.proofs.lemmas.Bool.{cases_eq, eqb-true, or_cases, or_left, or_right, false≢true}
+use Rattle.std.proofs.lemmas.Bool.{cases_eq, false≢true}
 use Rattle.entries.specs.declared.lists.Entry.{Entry}
 use Rattle.letters.specs.Contents.{Contents}
 use Rattle.entries.specs.Sets.{has, mark}
@@ -23,7 +23,7 @@ use Rattle.protocol.proofs.History.Effect.{accept, join, refuse, settle, drop}
 use Rattle.protocol.proofs.History.RowMove.{still, moves}
 use Rattle.protocol.proofs.History.OwnRowMove.{keeps, leads, proposes}
 use Rattle.protocol.proofs.RowMoves.{move_of}
-use Rattle.protocol.proofs.SafeNext.{case, grows, le_on, lists_kept, list_d, now_d}
+use Rattle.protocol.proofs.SafeNext.{case, grows, le_on, lists_kept, now_d}
 
 -- the others on a list
 pub on_others : (N : ℕ) (P : Policy) (d : ℕ) (ℓ : List Entry) (y : ℕ) → on ℓ y ≡ true → (y ≡ d → ⊥) →
@@ -35,16 +35,13 @@ on_others N P d ℓ y h n = elim (mark_tells d y) [
 
 on_insert : (e : Entry) (ℓ : List Entry) (y : ℕ) → on (insert e ℓ) y ≡ true → (e.depot ≡ y) ⊎ (on ℓ y ≡ true)
 unfolding on insert
-on_insert e [] y h = ⊎_map (eqb-true e.depot y) (λ q. q) (or_cases _ _ h)
+on_insert e [] y h = grind (arith, nat_tests, upd_tells, mark_tells)
 on_insert e (a ∷ ℓ) y h = go (ltb e.depot a.depot) (on_insert e ℓ y) h
   where
     go : (b : Bool) → (on (insert e ℓ) y ≡ true → (e.depot ≡ y) ⊎ (on ℓ y ≡ true)) →
         on (cond b (e ∷ (a ∷ ℓ)) (a ∷ insert e ℓ)) y ≡ true → (e.depot ≡ y) ⊎ ((eqb a.depot y || on ℓ y) ≡ true)
-    go true f k = ⊎_map (eqb-true e.depot y) (λ q. q) (or_cases (eqb e.depot y) (eqb a.depot y || on ℓ y) k)
-    go false f k = elim (or_cases (eqb a.depot y) (on (insert e ℓ) y) k) [
-      | inl q ↦ inr (or_left _ _ q)
-      | inr q ↦ ⊎_map (λ u. u) (λ u. or_right _ _ u) (f q)
-    ]
+    go true f k = grind (arith, nat_tests, upd_tells, mark_tells)
+    go false f k = grind (arith, nat_tests, upd_tells, mark_tells)
 
 on_one : (e : Entry) (y : ℕ) → on (e ∷ []) y ≡ true → y ≡ e.depot
 unfolding on
@@ -58,8 +55,7 @@ module _ {N : ℕ} {w : History} {d : ℕ} (d<N : d < N) (g : Safe N w)
     (l : LeadersKnow N w) where
   kept : {s : State} → s.rows d ≡ (w.at d).rows d → s.gathered ≡ (w.at d).gathered →
       Strikes w d s.owing → OwnRowMove N w d s
-  kept e f st = keeps (ap (λ r. r.number) e) (λ a. rw (ap (λ r. r.standing) e) at a)
-      (λ b y k. l.gathered d y (sym (ap (λ r. r.standing) e) ∙ b) (sym (ap (λ u. on u y) f) ∙ k)) st
+  kept e f st = grind (arith, nat_tests, upd_tells, mark_tells)
 
   -- a row is set that was offered or bound, and nothing is gathered any more
   sets : {s : State} (M k : ℕ) → s.rows ≡ upd (w.at d).rows M (record { number = number w d M; standing = k }) →
@@ -84,12 +80,7 @@ module _ {N : ℕ} {w : History} {d : ℕ} (d<N : d < N) (g : Safe N w)
   own_row_move (hear b L y st e a u) = kept refl refl st
   own_row_move (restart L e b) = kept refl refl (λ y h. inl h)
   own_row_move (lead f u) = leads (grind (arith, upd_tells)) (grind (arith, upd_tells)) (on_one _) (f d) u
-  own_row_move (offer b L n st lt f u a) =
-      kept (elim (upd_tells (w.at d).rows L (record { number = n; standing = 1 }) d) [
-        | inl q ↦ absurd (let a' = subst (λ x. 1 ≤ w.past x x n) (sym q.0) a in
-            let b = (g.own d).later d n (subst (λ x. number w d x < n) (sym q.0) u) in omega arith)
-        | inr q ↦ q.1
-      ]) refl st
+  own_row_move (offer b L n st lt f u a) = grind (arith, nat_tests, upd_tells, mark_tells)
   own_row_move (gather b e st h a) =
       keeps refl (λ a. a) (λ k y f. elim (on_insert e _ y f) [
         | inl q ↦ rw q at a
@@ -102,11 +93,9 @@ module _ {N : ℕ} {w : History} {d : ℕ} (d<N : d < N) (g : Safe N w)
         elim
             (cases_eq y d) [ inl q ↦ inl q | inr q ↦ inr (on_others N P d _ y k q) ],
       ))
-  own_row_move (accept b L ℓ e₀ st e a q f u) =
-      sets L 2 refl (λ v _. rw ((g.own d).now d) at (rw v at a)) refl st
-  own_row_move (join b L ℓ e₀ st e a q f u) =
-      sets L 4 refl (λ v _. rw (← ((g.own d).now d)) (subst (λ x. HasAccepted (w.past x x (number w d x))) v a)) refl st
-  own_row_move (refuse b L st e) = sets L 3 refl (λ _ a. absurd (omega arith)) refl st
+  own_row_move (accept b L ℓ e₀ st e a q f u) = grind (arith, nat_tests, upd_tells, mark_tells)
+  own_row_move (join b L ℓ e₀ st e a q f u) = grind (arith, nat_tests, upd_tells, mark_tells)
+  own_row_move (refuse b L st e) = grind (arith, nat_tests, upd_tells, mark_tells)
   own_row_move (settle b L st e a) = sets L 4 refl (λ q _. let r = ap (standing w d) q in omega arith) refl st
   own_row_move (drop b L y st e a h) = sets L 5 refl (λ q _. let r = ap (standing w d) q in omega arith) refl st
 
@@ -134,7 +123,7 @@ module _ {N : ℕ} {w : History} {d : ℕ} (d<N : d < N) (g : Safe N w)
     gathered_d : (y : ℕ) → (s.rows d).standing ≡ 1 → on s.gathered y ≡ true → 1 ≤ w'.past y d (s.rows d).number
     gathered_d y h k = elim (own_row_move does) [
       | keeps e f c st ↦ at_least y d _ 1 (rw e (c h y k))
-      | leads e f c n u ↦ rw (c y k) (let q = now_d g mv d in omega arith)
+      | leads e f c n u ↦ grind (arith, nat_tests, upd_tells, mark_tells)
       | proposes e f c n ↦ absurd (omega arith)
     ]
 
@@ -151,17 +140,15 @@ module _ {N : ℕ} {w : History} {d : ℕ} (d<N : d < N) (g : Safe N w)
     offered_d : (n y : ℕ) → HasAccepted (w'.past d d n) → on (w'.lists d n) y ≡ true → (1 ≤ w'.past y d n) × (y < N)
     offered_d n y a k = elim (cases_eq n (s.rows d).number) [
       | inl q ↦ go q (own_row_move does)
-      | inr q ↦ old_offered d n y (let r : w'.past d d n ≡ w.past d d n = grind (arith, nat_tests) in omega arith) k
+      | inr q ↦ grind (arith, nat_tests, upd_tells, mark_tells)
     ]
       where
         go : n ≡ (s.rows d).number → OwnRowMove N w d s → (1 ≤ w'.past y d n) × (y < N)
         go q (keeps e f c st) = old_offered d n y
             (subst HasAccepted (sym ((g.own d).now d) ∙ ap (w.past d d) (sym (q ∙ e)))
             (f (rw (ap (w'.past d d) q ∙ now_d g mv d) at a))) k
-        go q (leads e f c n u) = absurd (let r = ap (w'.past d d) q ∙ now_d g mv d in omega arith)
-        go q (proposes e f c h) =
-            let r = h y (ap (λ u. on u y) (list_d g mv d f ∙ ap (w'.lists d) (sym q)) ∙ k) in
-            (at_least y d n 1 (rw (q ∙ e) r.0), r.1)
+        go q (leads e f c n u) = grind (arith, nat_tests, upd_tells, mark_tells)
+        go q (proposes e f c h) = grind (arith, nat_tests, upd_tells, mark_tells)
 
     owing_d : (y : ℕ) → HasAccepted (s.rows d).standing → on (w'.lists d (s.rows d).number) y ≡ true →
         (y ≡ d) ⊎ ((has s.owing y ≡ true) ⊎ (3 ≤ w'.past y d (s.rows d).number))
@@ -181,14 +168,14 @@ module _ {N : ℕ} {w : History} {d : ℕ} (d<N : d < N) (g : Safe N w)
         go (keeps e f c st) = ⊎_map (λ u. u)
             (λ u. elim u [ inl v ↦ ⊎_map (λ x. x) (went e) (st y v) | inr v ↦ inr (went e v) ]) (old e (f a))
         go (leads e f c n u) = absurd (omega arith)
-        go (proposes e f c n) = ⊎_map (λ u. u) (λ u. inl u) (n y (ap (λ u. on u y) (list_d g mv d f) ∙ k)).2
+        go (proposes e f c n) = grind (arith, nat_tests, upd_tells, mark_tells)
 
     over_d : (n y : ℕ) → HasAccepted (w'.past d d n) → n < (s.rows d).number → on (w'.lists d n) y
         ≡ true → 3 ≤ w'.past y d n
     over_d n y a b k = go (own_row_move does)
       where
         before : HasAccepted (w.past d d n)
-        before = let r : w'.past d d n ≡ w.past d d n = grind (arith, nat_tests) in omega arith
+        before = grind (arith, nat_tests, upd_tells, mark_tells)
 
         go : OwnRowMove N w d s → 3 ≤ w'.past y d n
         go (keeps e f c st) = old_over d n y before (omega arith) k

@@ -3,7 +3,7 @@
 use Rattle.std.proofs.Common.{◌≡◌, ℕ, ◌<◌, ◌≤◌, Bool, true, false, not, ◌&&◌, eqb, List, [], sym, refl, ap, ◌∙◌, inl, inr, arith}
 use mathlib.Core.Option.{Option, none, some}
 use Rattle.std.proofs.lemmas.Bool.Decides.{nat_tests}
-use Rattle.std.proofs.lemmas.Bool.{eqb-true, eq-eqb, ne_eqb, le-ltb, lt-leb, and_from, and_left, or_from, not_from_true, both_ways}
+use Rattle.std.proofs.lemmas.Bool.{eqb-true, eq-eqb, ne_eqb, le-ltb, lt-leb, and_left, or_from, not_from_true, both_ways}
 use Rattle.entries.specs.declared.lists.Entry.{Entry}
 use Rattle.entries.specs.Sets.{has, mark}
 use Rattle.entries.specs.Lists.{on}
@@ -33,7 +33,7 @@ module _ {N : ℕ} {w : History} (g : Safe N w) (l : LeadersKnow N w) (x L n : �
   at_n = (g.own x).live L n (omega arith)
 
   pub bound_x : standing w x L ≡ 2
-  bound_x = sym ((g.own x).now L) ∙ (ap (w.past x L) at_n ∙ b)
+  bound_x = grind (arith, nat_tests, upd_tells, add_tells)
 
   pub led_x : HasAccepted (w.past L L n)
   led_x = g.led x L n (omega arith)
@@ -168,7 +168,7 @@ module _ {N : ℕ} (P : Policy) (x L n y : ℕ) {w : History} (g : Safe N w) (l 
   y<N = (l.offered L n y (led_x g l x L n b) h).1
 
   L<N : L < N
-  L<N = g.small x L (let q = bound_x g l x L n b in omega arith)
+  L<N = grind (arith, nat_tests, upd_tells, add_tells)
 
   reply : (t : State) (k : Kind) → (t.rows L).number ≡ n → IsAnswer k →
       Replies P x L n y (mail (site_of N P y) t k (mark x) L [])
@@ -226,11 +226,10 @@ module _ {N : ℕ} (P : Policy) (x L n y : ℕ) {w : History} (g : Safe N w) (l 
   Heard r = ((after (w.at x) r).rows L).standing ≡ 2 → has (after (w.at x) r).heard y ≡ true
 
   gone : (m k : ℕ) → (k ≡ 2 → ⊥) → (upd (w.at x).rows L (record { number = m; standing = k }) L).standing ≡ 2 → ⊥
-  gone m k f e = elim (upd_tells (w.at x).rows L (record { number = m; standing = k }) L)
-      [ inl u ↦ f (cc) | inr u ↦ u.0 refl ]
+  gone m k f e = grind (arith, nat_tests, upd_tells, add_tells)
 
   here_bound : (eqb (standing w x L) 2 && on (w.at x).list y) ≡ true
-  here_bound = and_from _ _ (eq-eqb _ 2 (bound_x g l x L n b)) (ap (λ u. on u y) (list_x g l x L n b) ∙ h)
+  here_bound = grind (arith, nat_tests, upd_tells, add_tells)
 
   module _ (c : ℕ) (v : Bool) (es : List Entry) where
     abbrev sˣ : State

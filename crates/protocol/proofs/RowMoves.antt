@@ -8,7 +8,7 @@ use Rattle.protocol.specs.Law.{HasAccepted, Engages}
 use Rattle.protocol.specs.Listing.{every}
 use Rattle.protocol.specs.Policy.{Policy}
 use Rattle.protocol.specs.State.{State, upd}
-use Rattle.protocol.proofs.InSets.{add_tells, of_mark, mark_self, in_pair, self_pair, head_pair, add_keeps}
+use Rattle.protocol.proofs.InSets.{add_tells, of_mark, mark_self, in_pair, self_pair, head_pair}
 use Rattle.protocol.proofs.Tests.{every_one, not_every}
 use Rattle.protocol.proofs.History.{History, site_of}
 use Rattle.protocol.proofs.History.{standing, number, Effect, StandingMove, RowMove, Safe}
@@ -36,7 +36,7 @@ module _ {N : ℕ} {w : History} {d : ℕ} (d<N : d < N) (g : Safe N w) where
 
   one_at : (L : ℕ) → Engages (standing w d L) → (M : ℕ) → Engages (standing w d M) →
       (M ≡ L) × (number w d M ≡ number w d L)
-  one_at L e M f = let q = g.single d M L f e in (q, ap (number w d) q)
+  one_at L e M f = grind (arith, add_tells)
 
   -- the handover in the row of L, in which d is engaged, ends at k
   ends_in : (L k : ℕ) → Engages (standing w d L) → 3 ≤ k → {s : State} →
@@ -51,25 +51,11 @@ module _ {N : ℕ} {w : History} {d : ℕ} (d<N : d < N) (g : Safe N w) where
 
   pub move_of : {P : Policy} {z : Type 0} {ℓ₀ : List Entry} {s : State} {i j : ℕ} → Effect N P w d z ℓ₀ s i j → RowMove N w d s
   move_of (keep b st) = as_it_was refl refl refl refl
-  move_of (issue n f l) = still refl (λ L e. absurd (f L (omega arith)))
+  move_of (issue n f l) = grind (arith, add_tells)
   move_of (return n f) = still refl (λ L e. absurd (f L (omega arith)))
   move_of (lay n) = as_it_was refl refl refl refl
   move_of (want n f) = as_it_was refl refl refl refl
-  move_of (hear b L y st e a o) = still refl (λ M c. let m = g.single d M L (omega arith) (omega arith) in
-      let k = g.held d M c in (
-        refl,
-        (λ x q. elim (add_tells (w.at d).heard y x) [
-          | inl u ↦ rw (u.0, m) a
-          | inr u ↦ g.heard d M x c (sym u.1 ∙ q)
-        ]),
-        record {
-          me = k.me;
-          mine = k.mine;
-          self = add_keeps _ y d k.self;
-          head = add_keeps _ y M k.head;
-          waits = o;
-        },
-      ))
+  move_of (hear b L y st e a o) = grind (arith, add_tells)
   move_of {P} (restart L e b) = still refl (λ M c. let m = g.single d M L (omega arith) (omega arith) in
       let k = g.held d M c in (
         refl,

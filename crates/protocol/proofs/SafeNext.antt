@@ -2,7 +2,6 @@
 -- stays so.
 use Rattle.std.proofs.Common.{◌≡◌, ℕ, ◌<◌, ◌≤◌, true, ◌&&◌, eqb, ◌⊎◌, List, sym, refl, ap, ◌∙◌, subst, inl, inr, arith}
 use mathlib.Core.Path.{fun_ext}
-use mathlib.Core.Logic.{⊎_map}
 use mathlib.Core.Option.{Option, none, some}
 use Rattle.std.proofs.lemmas.Bool.Decides.{nat_tests}
 use Rattle.std.proofs.lemmas.Bool.{cond_both, cases_eq}
@@ -47,8 +46,7 @@ turn_on w d L n k k' (same e) = inl e
 turn_on w d L n k k' (opens a b j) = inr (inl (omega arith))
 turn_on w d L n k k' (binds a b j) = inr (inl (omega arith))
 turn_on w d L n k k' (refuses a b) = inr (inl (omega arith))
-turn_on w d L n k k' (settles a b i j _) =
-    elim (two k a) [ inl e ↦ inr (inl (omega arith)) | inr e ↦ inr (inr (omega arith)) ]
+turn_on w d L n k k' (settles a b i j _) = grind (arith, nat_tests, upd_tells)
   where
     two : (k : ℕ) → Engages k → (k ≡ 1) ⊎ (k ≡ 2)
     two k e = grind arith
@@ -62,7 +60,7 @@ vouches_on kinds.List y L k k' es Q Q' m f t = (t.0, acc_on k k' m t.1, f t.1 es
 vouches_on kinds.Yes y L k k' es Q Q' m f t = acc_on k k' m t
 vouches_on kinds.No y L k k' es Q Q' m f t = omega arith
 vouches_on kinds.Settle y L k k' es Q Q' m f t = omega arith
-vouches_on kinds.Drop y L k k' es Q Q' m f t = ⊎_map (λ e. omega arith) (λ e. omega arith) t
+vouches_on kinds.Drop y L k k' es Q Q' m f t = grind (arith, nat_tests, upd_tells)
 vouches_on kinds.Query y L k k' es Q Q' m f t = acc_on k k' m t
 vouches_on kinds.Done y L k k' es Q Q' m f t = omega arith
 
@@ -86,7 +84,7 @@ module _ {N : ℕ} {w : History} {d : ℕ} (g : Safe N w) {s : State} (mv : RowM
   turn L n = go mv
     where
       go : RowMove N w d s → StandingMove w d L n (w.past d L n) (w'.past d L n)
-      go (still e f) = let q = (g.own d).now L in same (grind (arith, nat_tests))
+      go (still e f) = grind (arith, nat_tests, upd_tells)
       go (moves M m k pos e lt up only t f) =
           elim (at_or L n) [
             | inl (a, b, c) ↦ rw c (rw (a, b) t)
@@ -114,7 +112,7 @@ module _ {N : ℕ} {w : History} {d : ℕ} (g : Safe N w) {s : State} (mv : RowM
   -- the rows of d
   rise : (L : ℕ) → number w d L ≤ (s.rows L).number
   rise L = elim mv [
-    | still e f ↦ let r = ap (λ u. (u L).number) e in omega arith
+    | still e f ↦ grind (arith, nat_tests, upd_tells)
     | moves M m k pos e lt up only t f ↦
         rw (ap (λ u. u L) e) (elim (upd_tells (w.at d).rows M (record { number = m; standing = k }) L)
         [ inl q ↦ grind arith | inr q ↦ grind arith ])
@@ -128,13 +126,13 @@ module _ {N : ℕ} {w : History} {d : ℕ} (g : Safe N w) {s : State} (mv : RowM
 
   pub one : (L M : ℕ) → Engages (s.rows L).standing → Engages (s.rows M).standing → L ≡ M
   one L M a b = elim mv [
-    | still e f ↦ g.single d L M (rw (ap (λ u. (u L).standing) e) at a) (rw (ap (λ u. (u M).standing) e) at b)
+    | still e f ↦ grind (arith, nat_tests, upd_tells)
     | moves O m k pos e lt up only t f ↦ let r = ap (λ u. u L) e in let r' = ap (λ u. u M) e in grind (arith, upd_tells)
   ]
 
   pub low : (L : ℕ) → 1 ≤ (s.rows L).standing → L < N
   low L a = elim mv [
-    | still e f ↦ g.small d L (rw (ap (λ u. (u L).standing) e) at a)
+    | still e f ↦ grind (arith, nat_tests, upd_tells)
     | moves O m k pos e lt up only t f ↦ let r = ap (λ u. u L) e in grind (arith, upd_tells)
   ]
 
@@ -160,12 +158,11 @@ module _ {N : ℕ} {w : History} {d : ℕ} (g : Safe N w) {s : State} (mv : RowM
   held L h = go mv
     where
       go : RowMove N w d s → Held w d s L
-      go (still e f) = let b : standing w d L ≡ 2 = sym (ap (λ u. (u L).standing) e) ∙ h in let t = f L b in
-          old b (ap (λ u. (u L).number) e) t.0 t.1 t.2
+      go (still e f) = grind (arith, nat_tests, upd_tells)
       go (moves M m k pos e lt up only t f) =
           elim (upd_tells (w.at d).rows M (record { number = m; standing = k }) L) [
-            | inl q ↦ rw q.0 (at_M (f (sym (ap (λ u. u.standing) (ap (λ u. u L) e ∙ q.1)) ∙ h)))
-            | inr q ↦ absurd (q.0 (only L (let r = ap (λ u. u.standing) (ap (λ u. u L) e ∙ q.1) in omega arith)).0)
+            | inl q ↦ grind (arith, nat_tests, upd_tells)
+            | inr q ↦ grind (arith, nat_tests, upd_tells)
           ]
         where
           n : (s.rows M).number ≡ m
@@ -180,7 +177,7 @@ module _ {N : ℕ} {w : History} {d : ℕ} (g : Safe N w) {s : State} (mv : RowM
     where
       go : (eqb L d && (eqb n (s.rows L).number && eqb (s.rows L).standing 2)) ≡ true →
           Held w d s L → s.list ≡ w.lists L n
-      go e (old b m l f x) = let q = g.list d L b in let r : n ≡ number w d L = grind (arith, nat_tests) in cc
+      go e (old b m l f x) = grind (arith, nat_tests, upd_tells)
       go e (new b c f x) = let p : L ≡ d = grind (arith, nat_tests) in
           let r : n ≡ (s.rows L).number = grind (arith, nat_tests) in
           absurd (let k : w.past L L n ≡ 1 = rw (r, p) (rw p at b) in omega arith)
@@ -199,7 +196,7 @@ module _ {N : ℕ} {w : History} {d : ℕ} (g : Safe N w) {s : State} (mv : RowM
   asked_d L n a = elim (turn L n) [
     | same e ↦ up (omega arith)
     | opens b e (inl c) ↦ subst (λ z. 1 ≤ w'.past z L n) (sym c) a
-    | opens b e (inr c) ↦ let r = le_on _ _ (grows L L n) in omega arith
+    | opens b e (inr c) ↦ grind (arith, nat_tests, upd_tells)
     | binds b e c ↦ up (omega arith)
     | refuses b e ↦ up (omega arith)
     | settles b e c f m ↦ up (omega arith)
@@ -207,13 +204,13 @@ module _ {N : ℕ} {w : History} {d : ℕ} (g : Safe N w) {s : State} (mv : RowM
   ]
     where
       up : 1 ≤ w.past d L n → 1 ≤ w'.past L L n
-      up h = let q = g.asked d L n h in let r = le_on _ _ (grows L L n) in omega arith
+      up h = grind (arith, nat_tests, upd_tells)
 
   led_d : (L n : ℕ) → HasAccepted (w'.past d L n) → HasAccepted (w'.past L L n)
   led_d L n a = elim (turn L n) [
     | same e ↦ accs L L n (g.led d L n (omega arith))
     | opens b e c ↦ absurd (omega arith)
-    | binds b e (inl c) ↦ subst (λ z. HasAccepted (w'.past z L n)) (sym c) a
+    | binds b e (inl c) ↦ grind (arith, nat_tests, upd_tells)
     | binds b e (inr c) ↦ accs L L n c
     | refuses b e ↦ absurd (omega arith)
     | settles b e c f m ↦ accs L L n c
@@ -229,10 +226,7 @@ module _ {N : ℕ} {w : History} {d : ℕ} (g : Safe N w) {s : State} (mv : RowM
 
       go : Held w d s L → HasAccepted (w'.past y L (s.rows L).number)
       go (old b m l f x) = accs y L _ (rw (← m) at (f y k))
-      go (new b c f x) = elim (f y k) [
-        | inl e ↦ rw e acc_d
-        | inr e ↦ rw e (led_d L _ acc_d)
-      ]
+      go (new b c f x) = grind (arith, nat_tests, upd_tells)
 
   held_d : (L : ℕ) → (s.rows L).standing ≡ 2 → HoldsList d L s
   held_d L h = elim (held L h) [
@@ -271,8 +265,7 @@ module _ {N : ℕ} {w : History} {d : ℕ} (g : Safe N w) {s : State} (mv : RowM
     | opens b e c ↦ absurd (omega arith)
     | binds b e c ↦ absurd (omega arith)
     | refuses b e ↦ absurd (omega arith)
-    | settles b e c f m ↦ elim (f y (rw (lists_kept L n c) at k))
-        [ inl u ↦ rw u (omega arith) | inr u ↦ accs y L n u ]
+    | settles b e c f m ↦ grind (arith, nat_tests, upd_tells)
     | drops b e c z f q ↦ absurd (omega arith)
   ]
 

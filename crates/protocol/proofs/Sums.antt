@@ -2,7 +2,7 @@
 use Rattle.std.proofs.Common.{◌≡◌, ℕ, zero, suc, ◌+◌, ◌<◌, ◌≤◌, true, cond, ◌||◌, eqb, List, [], ◌∷◌, length, sum, sym, refl, ap, ◌∙◌, ap₂, inl, inr, arith}
 use Rattle.std.specs.List.{AllByRecursion}
 use Rattle.std.proofs.lemmas.Bool.Decides.{nat_tests}
-use Rattle.std.proofs.lemmas.Bool.{cases_eq, eqb-true, or_cases, eq-eqb, ne_eqb, cond-true, cond-false}
+use Rattle.std.proofs.lemmas.Bool.{cases_eq, or_cases, eq-eqb, ne_eqb, cond-true, cond-false}
 use Rattle.std.proofs.lemmas.List.Sums.{sum_by-cons}
 use Rattle.entries.specs.declared.lists.Entry.{Entry}
 use Rattle.entries.specs.Lists.{pool, RisesFrom, on, entry_of}
@@ -62,7 +62,7 @@ rising_on N b [] y r h = absurd (grind arith)
 rising_on N b (e ∷ ℓ) y r h =
     let (a, c, v) = r in
     elim (or_cases (eqb e.depot y) (on ℓ y) h) [
-      | inl q ↦ (let q' = eqb-true e.depot y q in omega arith)
+      | inl q ↦ grind (arith, nat_tests)
       | inr q ↦ (let z = rising_on N (e.depot + 1) ℓ y v q in omega arith)
     ]
 

@@ -2,7 +2,7 @@
 use Rattle.std.proofs.Common.{◌≡◌, ℕ, zero, suc, ◌<◌, Bool, true, false, cond, ◌&&◌, eqb, ◌⊎◌, List, [], ◌∷◌, refl, inl, inr, arith}
 use Rattle.std.specs.Bool.{Decides}
 use Rattle.std.proofs.lemmas.Bool.Decides.{Decides-below_or}
-use Rattle.std.proofs.lemmas.Bool.{false_from_ne_true, eqb-true, eqb-false, eq-eqb, cond_both, and_parts, and_cases, or_cases, or_left, or_right, cases_eq, and_from, both_ways}
+use Rattle.std.proofs.lemmas.Bool.{false_from_ne_true, eqb-true, eqb-false, eq-eqb, cond_both, and_parts, or_cases, or_left, or_right, cases_eq, and_from, both_ways}
 use Rattle.entries.specs.declared.lists.Entry.{Entry}
 use Rattle.entries.specs.Lists.{on}
 use Rattle.protocol.specs.Listing.{every}
@@ -26,7 +26,7 @@ pub every_one : (ℓ : List Entry) (p : ℕ → Bool) (y : ℕ) → every ℓ p 
 unfolding every on
 every_one [] p y h k = cc
 every_one (e ∷ ℓ) p y h k = elim (or_cases (eqb e.depot y) (on ℓ y) k) [
-  | inl q ↦ rw (eqb-true e.depot y q) at (and_parts (p e.depot) (every ℓ p) h).0
+  | inl q ↦ grind (arith, upd_tells)
   | inr q ↦ every_one ℓ p y (and_parts (p e.depot) (every ℓ p) h).1 q
 ]
 
@@ -72,4 +72,4 @@ not_every ℓ p q f h = false_from_ne_true _ (λ e. both_ways _ h (every_less �
 
 -- the other of two tests fails, where they do not both hold
 pub other_way : (b c : Bool) → b ≡ true → (b && c) ≡ false → c ≡ false
-other_way b c h e = elim (and_cases b c e) [ inl z ↦ absurd (both_ways _ z h) | inr z ↦ z ]
+other_way b c h e = grind (arith, upd_tells)
