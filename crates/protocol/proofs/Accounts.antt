@@ -1,11 +1,10 @@
 -- Accepted, settled, dropped and due, as the calls of a series tell them, are what the last standings say. So depots
 -- agree, since one that has settled excludes one that refused, and pieces are conserved, by the dues of every call.
-use Rattle.std.proofs.Common.{◌≡◌, ℕ, ◌+◌, ◌≤◌, Bool, true, false, cond, ◌&&◌, ◌||◌, eqb, ◌⊎◌, List, [], ◌∷◌, sym, refl, ap, ◌∙◌, inl, inr, arith}
+use Rattle.std.proofs.Common.{◌≡◌, ℕ, ◌+◌, ◌≤◌, Bool, true, false, cond, ◌&&◌, ◌||◌, eqb, ◌⊎◌, List, [], ◌∷◌, sym, refl, ap, ◌∙◌, arith}
 use mathlib.Core.Path.{fun_ext}
 use Rattle.std.proofs.lemmas.Bool.Decides.{nat_tests}
-use Rattle.std.proofs.lemmas.Bool.{eq-eqb, ne_eqb, and_from, cases_eq, cases_Bool, cond-true, cond-false}
+use Rattle.std.proofs.lemmas.Bool.{eq-eqb, ne_eqb, and_from, cond-true}
 use Rattle.entries.specs.declared.lists.Entry.{Entry}
-use Rattle.policies.specs.Shares.{share_of}
 use Rattle.protocol.specs.Calls.{Call, Hand, once, accepts, ends_at}
 use Rattle.protocol.specs.Law.{HasAccepted}
 use Rattle.protocol.specs.Listing.{every, same}
@@ -14,7 +13,7 @@ use Rattle.protocol.specs.Outcome.{after}
 use Rattle.protocol.specs.Policy.{Policy, LawfulPolicy}
 use Rattle.protocol.specs.Promises.{Agreed, Conservation}
 use Rattle.protocol.specs.Series.{Stage, just_opened, outcome, Allowed, Series, start, then}
-use Rattle.protocol.specs.State.{pick, any, Row, fresh, engages}
+use Rattle.protocol.specs.State.{pick, Row, fresh, engages}
 use Rattle.protocol.specs.Words.{among, stands, bound_to_standing, due}
 use Rattle.protocol.proofs.Sums.{sum_same}
 use Rattle.protocol.proofs.History.{past_of, lists_of, history}
@@ -123,11 +122,7 @@ module _ {P : Policy} (lawful : LawfulPolicy P) {o : Opening} where
     accepted_of y L n a = t.accepted y L n ∙ cond-true _ _ _ (true_acc _ a)
 
     none_other : (y L n : ℕ) → (w.accepted y L n ≡ []) ⊎ (w.accepted y L n ≡ lists_of s L n ∷ [])
-    none_other y L n =
-        elim (cases_Bool (has_accepted (past_of s y L n))) [
-          | inl q ↦ inr (accepted_of y L n (acc_true _ q))
-          | inr q ↦ inl (t.accepted y L n ∙ cond-false _ _ _ q)
-        ]
+    none_other y L n = grind (arith, nat_tests, acc_true, accepted_of, t)
 
     not_dropped : (x L n y : ℕ) → past_of s x L n ≡ 4 → past_of s y L n ≡ 5 → ⊥
     not_dropped x L n y p q = let (z, l, r) = h.safe.dropped y L n q in (h.safe.settled x L n z p l).1 r
@@ -171,28 +166,11 @@ module _ {P : Policy} (lawful : LawfulPolicy P) {o : Opening} where
 
     firm_is : (x : ℕ) → bound_to_standing o w x ≡ firmly o.n (past_of s) (w.at x).rows (w.at x).list
     unfolding bound_to_standing firmly
-    firm_is x =
-        ap (any o.n)
-        (fun_ext (λ L. elim (cases_eq ((w.at x).rows L).standing 2) [
-          | inl e ↦ ap (λ b. eqb ((w.at x).rows L).standing 2 && b) (stands_is x L e)
-          | inr e ↦ grind (arith, nat_tests)
-        ]))
-      where
-        off : (b c d : Bool) → b ≡ false → (b && c) ≡ (b && d)
-        off b c d e = grind (arith, nat_tests)
+    firm_is x = grind (arith, nat_tests, stands_is)
 
     due_is : (x : ℕ) → due P o w x ≡ dueBy o.n P (history s) x
     unfolding due due_of pick
-    due_is x = elim (cases_Bool (w.handed x)) [
-      | inl e ↦ cond-true _ _ _ e ∙ ap
-          (λ b. (w.at x).tray + cond b (share_of P.share (w.at x).list x) (w.at x).shelf) (firm_is x)
-      | inr e ↦ cond-false _ _ _ e ∙ sym (loose e)
-    ]
-      where
-        loose : w.handed x ≡ false → dueBy o.n P (history s) x ≡ o.shares x
-        loose e = let q = h.unhanded x e in
-            ap (λ u. due_of o.n P (past_of s) u x) q
-            ∙ (due_no o.n P (past_of s) (fresh (o.shares x)) x (λ (L, a, _). omega arith) ∙ zero_more (o.shares x))
+    due_is x = grind (arith, nat_tests, dueBy, due_no, firm_is, h, zero_more)
 
     pub conservation : Conservation P o w
     conservation = let e = sum_same o.n (due P o w) (dueBy o.n P (history s)) (λ x _. due_is x) in

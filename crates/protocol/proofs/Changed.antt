@@ -45,13 +45,7 @@ share_within (e ∷ ℓ) (n ∷ ns) d =
 module _ (a : Site) (s : State) (law : Law a s) where
   -- who is bound has a list that may be shared out
   pub bound_listed : (L : ℕ) → (s.rows L).standing ≡ 2 → Listed s.list
-  bound_listed L e =
-      let b = law.lists.bound L e in
-      let alone = has (mark a.depot) in
-      let n = not_every s.list alone (has s.heard)
-      (λ y h. rw (of_mark a.depot y h) b.self) b.waits in
-      listed_of a L s.shelf s.wish s.list law.site.size b.list
-      (two a.depot s.list b.list.me n)
+  bound_listed L e = grind (arith, listed_of, not_every, of_mark, two)
 
   pub names_known : (es : List Entry) → AllByRecursion (λ e. e.depot < max_depots) es → Below max_depots (names es)
   names_known es h = names_below max_depots es (λ y k. all_on (λ x. x < max_depots) es y h k)

@@ -132,23 +132,6 @@ module _ {N : ℕ} {P : Policy} {w : History} {d : ℕ} {z : Type 0} {ℓ₀ : L
         E x L n + once (eqb x d && (eqb n (s.rows L).number && t (standing w d L) (s.rows L).standing))
         ≡ once (T (w'.past x L n))
     count_next x L n = grind (arith, nat_tests, upd_tells)
-      where
-        now : ℕ → ℕ → ℕ → Bool → Bool → ℕ
-        now x L n b c = E x L n + once (b && (c && t (standing w d L) (s.rows L).standing))
-
-        site_of : (L n : ℕ) → n ≡ (s.rows L).number → now d L n (eqb d d) (eqb n (s.rows L).number)
-            ≡ once (T (w'.past d L n))
-        site_of L n e = grind (arith, nat_tests, upd_tells)
-
-        same_past : w'.past x L n ≡ w.past x L n → E x L n ≡ once (T (w'.past x L n))
-        same_past r = ih x L n ∙ ap (λ k. once (T k)) (sym r)
-
-        off : eqb n (s.rows L).number ≡ false → now x L n (eqb x d) (eqb n (s.rows L).number)
-            ≡ once (T (w'.past x L n))
-        off p = grind (arith, nat_tests, upd_tells)
-
-        away : eqb x d ≡ false → now x L n (eqb x d) (eqb n (s.rows L).number) ≡ once (T (w'.past x L n))
-        away p = grind (arith, nat_tests, upd_tells)
 
   -- how often the handover was ended at m
   pub ended_next : (m : ℕ) → 4 ≤ m → (E : ℕ → ℕ → ℕ → ℕ) → ((x L n : ℕ) → E x L n ≡ once (eqb (w.past x L n) m)) →

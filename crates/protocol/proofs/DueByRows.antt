@@ -1,17 +1,14 @@
 -- The records tell what is due: while a depot is bound to a list, the row of its leader has the handover's number in
 -- the record of every depot on that list, so that the row's standing is the last one in the handover.
-use Rattle.std.proofs.Common.{◌≡◌, ℕ, ◌+◌, ◌≤◌, Bool, true, false, ◌&&◌, ◌||◌, eqb, List, [], ◌∷◌, sym, refl, ap, ◌∙◌, ap₂, arith}
-use mathlib.Core.Path.{fun_ext}
+use Rattle.std.proofs.Common.{◌≡◌, ℕ, ◌≤◌, Bool, true, false, ◌&&◌, ◌||◌, eqb, List, [], ◌∷◌, refl, ◌∙◌, ap₂, arith}
 use Rattle.std.proofs.lemmas.Bool.Decides.{nat_tests}
-use Rattle.std.proofs.lemmas.Bool.{eqb-true, eq-eqb, or_left, or_right}
+use Rattle.std.proofs.lemmas.Bool.{eq-eqb, or_left, or_right}
 use Rattle.entries.specs.declared.lists.Entry.{Entry}
 use Rattle.entries.specs.Lists.{on}
-use Rattle.policies.specs.Shares.{share_of}
 use Rattle.protocol.specs.Listing.{every}
 use Rattle.protocol.specs.Opening.{Opening, LawfulOpening}
 use Rattle.protocol.specs.Policy.{Policy, LawfulPolicy}
 use Rattle.protocol.specs.Series.{Stage, just_opened, Series}
-use Rattle.protocol.specs.State.{pick, any}
 use Rattle.protocol.specs.Words.{stands, bound_to_standing, due}
 use Rattle.protocol.specs.ByRows.{accepted_by_row, stands_by_rows, bound_by_rows, due_by_rows, DueByRows}
 use Rattle.protocol.proofs.History.{past_of, has_accepted}
@@ -52,21 +49,7 @@ module _ {P : Policy} (lawful : LawfulPolicy P) {o : Opening} (ok : LawfulOpenin
     -- a depot on the list has accepted it exactly if its row says so
     row_tells : (y : ℕ) → on (w.at x).list y ≡ true → has_accepted (past_of s y L n) ≡ accepted_by_row w.at L n y
     unfolding accepted_by_row
-    row_tells y listed =
-        ap has_accepted last
-        ∙ (accepted_standing k (rw (← last) (h.safe.most y L n))
-        ∙ sym (ap (λ b. b && (eqb k 2 || (eqb k 4 || eqb k 5))) (eq-eqb _ n at_n)))
-      where
-        k : ℕ
-        k = ((w.at y).rows L).standing
-
-        at_n : ((w.at y).rows L).number ≡ n
-        at_n =
-            pinned h.safe h.leaders x L n bound_last y
-            (ap (λ ℓ. on ℓ y) (sym (list_x h.safe h.leaders x L n bound_last)) ∙ listed)
-
-        last : past_of s y L n ≡ k
-        last = ap (past_of s y L) (sym at_n) ∙ (h.safe.own y).now L
+    row_tells y listed = grind (arith, nat_tests, accepted_standing, bound_last, h, list_x, pinned)
 
     stands_by_rows_lem : stands w L n (w.at x).list ≡ stands_by_rows w.at L n (w.at x).list
     unfolding stands_by_rows
@@ -76,17 +59,11 @@ module _ {P : Policy} (lawful : LawfulPolicy P) {o : Opening} (ok : LawfulOpenin
 
   bound_by_rows_lem : (x : ℕ) → bound_to_standing o w x ≡ bound_by_rows o w.at x
   unfolding bound_to_standing bound_by_rows
-  bound_by_rows_lem x =
-      ap (any o.n)
-      (fun_ext (λ L. and_same (eqb ((w.at x).rows L).standing 2) _ _
-      (λ e. stands_by_rows_lem x L (eqb-true _ 2 e))))
+  bound_by_rows_lem x = grind (arith, nat_tests, and_same, stands_by_rows_lem)
 
   due_rows : (x : ℕ) → due P o w x ≡ due_by_rows P o w.handed w.at x
   unfolding due due_by_rows
-  due_rows x =
-      ap (λ b. pick (w.handed x)
-      ((w.at x).tray + pick b (share_of P.share (w.at x).list x) (w.at x).shelf) (o.shares x))
-      (bound_by_rows_lem x)
+  due_rows x = grind (arith, nat_tests, bound_by_rows_lem)
 
 pub due_by_rows_lem : DueByRows
 due_by_rows_lem P lawful o ok w s x = due_rows lawful ok s x

@@ -117,11 +117,7 @@ module _ {N : ℕ} {w : History} {d : ℕ} (d<N : d < N) (g : Safe N w) {P : Pol
     kept : s.rows ≡ (w.at d).rows → s.list ≡ (w.at d).list → s.shelf ≡ (w.at d).shelf →
         s.tray + i ≡ (w.at d).tray + j → DueMove s i j
     unfolding due_of
-    kept e f h k = calm (same_new s e)
-        (let
-        q : cond (firmly N (p' s) s.rows s.list) (share_of P.share s.list d) s.shelf
-        ≡ cond (firmly N p (w.at d).rows (w.at d).list) (share_of P.share (w.at d).list d) (w.at d).shelf =
-        (let b = firm_kept s e f in cc) in omega arith)
+    kept e f h k = grind (arith, nat_tests, upd_tells, calm, firm_kept, same_new)
 
     -- loose before and after
     idle : NoNew s → (Firm p (w.at d) → ⊥) → (Firm (p' s) s → ⊥) →
@@ -227,22 +223,12 @@ module _ {N : ℕ} {w : History} {d : ℕ} (d<N : d < N) (g : Safe N w) {P : Pol
       -- a list that stands now stood before, but this one
       stood : (x : ℕ) → (standing w x M ≡ 2 → number w x M ≡ n → Firm q (w.at x) → ⊥) →
           Firm q (w.at x) → Firm p (w.at x)
-      stood x refusal_kept (L, a, f) = (
-        L,
-        a,
-        λ y h. elim (point s M n k e y L (number w x L)) [
-          | inl (u, v, m, _) ↦ grind (arith, nat_tests, upd_tells)
-          | inr u ↦ rw u at (f y h)
-        ],
-      )
+      stood x refusal_kept (L, a, f) = grind (arith, nat_tests, point, upd_tells)
 
       module _ (all : (y : ℕ) → on ℓ y ≡ true → HasAccepted (q y M n)) where
         -- everybody else on it is bound to it
         joined : (x : ℕ) → (x ≡ d → ⊥) → on ℓ x ≡ true → (standing w x M ≡ 2) × (number w x M ≡ n)
         joined x x≢d h = grind (arith, nat_tests, upd_tells)
-          where
-            no5 : ℓ ≡ w.lists M n → (y : ℕ) × (on (w.lists M n) y ≡ true) × (p y M n ≡ 3) → ⊥
-            no5 l (y, f, h) = grind (arith, nat_tests, upd_tells)
 
         -- each listed depot's due goes from its shelf to its share
         goes : (due_of N P q s d ≡ (w.at d).tray + share_of P.share ℓ d) → (x : ℕ) →

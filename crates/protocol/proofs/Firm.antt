@@ -1,7 +1,7 @@
 -- What is due to a depot by the last standings, told as two cases: bound to a list that every depot on it has accepted,
 -- and not.
-use Rattle.std.proofs.Common.{◌≡◌, ℕ, ◌+◌, ◌<◌, ◌≤◌, Bool, true, false, cond, ◌&&◌, eqb, List, sym, ap, ◌∙◌, inl, inr, arith}
-use Rattle.std.proofs.lemmas.Bool.{false_from_ne_true, cond-true, cond-false, cases_Bool, eqb-true, eq-eqb, and_parts, and_from, both_ways}
+use Rattle.std.proofs.Common.{◌≡◌, ℕ, ◌+◌, ◌<◌, ◌≤◌, Bool, true, false, cond, ◌&&◌, eqb, List, ap, arith}
+use Rattle.std.proofs.lemmas.Bool.{false_from_ne_true, cond-true, cond-false, eq-eqb, and_from}
 use Rattle.entries.specs.declared.lists.Entry.{Entry}
 use Rattle.entries.specs.Lists.{on}
 use Rattle.protocol.specs.Law.{HasAccepted}
@@ -35,11 +35,7 @@ Low N s = (L : ℕ) → 1 ≤ (s.rows L).standing → L < N
 
 pub firm_of : (N : ℕ) (p : ℕ → ℕ → ℕ → ℕ) (s : State) → firmly N p s.rows s.list ≡ true → Firm p s
 unfolding firmly
-firm_of N p s h =
-    let (L, _, q) = any_one N _ h in
-    let (a, b) = and_parts (eqb (s.rows L).standing 2)
-    (every s.list (λ y. has_accepted (p y L (s.rows L).number))) q in
-    (L, eqb-true _ 2 a, λ y k. acc_true _ (every_one s.list (λ y. has_accepted (p y L (s.rows L).number)) y b k))
+firm_of N p s h = grind (arith, acc_true, any_one, every_one)
 
 pub of_firm : (N : ℕ) (p : ℕ → ℕ → ℕ → ℕ) (s : State) → Low N s → Firm p s → firmly N p s.rows s.list ≡ true
 unfolding firmly
@@ -52,10 +48,7 @@ not_firm N p s f = false_from_ne_true _ (λ e. f (firm_of N p s e))
 
 pub firm_same : (N : ℕ) (p p' : ℕ → ℕ → ℕ → ℕ) (s : State) → Low N s → (Firm p s → Firm p' s) → (Firm p' s → Firm p s) →
     firmly N p' s.rows s.list ≡ firmly N p s.rows s.list
-firm_same N p p' s low f f' = elim (cases_Bool (firmly N p s.rows s.list)) [
-  | inl e ↦ of_firm N p' s low (f (firm_of N p s e)) ∙ sym e
-  | inr e ↦ not_firm N p' s (λ q. both_ways _ e (of_firm N p s low (f' q))) ∙ sym e
-]
+firm_same N p p' s low f f' = grind (arith, firm_of, low, not_firm, of_firm)
 
 pub due_yes : (N : ℕ) (P : Policy) (p : ℕ → ℕ → ℕ → ℕ) (s : State) (x : ℕ) → Low N s → Firm p s → due_of N P p s x
     ≡ s.tray + share_of P.share s.list x

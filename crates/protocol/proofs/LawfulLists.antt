@@ -61,22 +61,7 @@ every_all N (e ∷ ℓ) h = let (a, b) = and_parts (ltb e.depot N) (every ℓ (�
 -- a list that can be accepted is one to be bound to
 pub acceptable_lawful : (a : Site) (s : State) (L y n : ℕ) (es : List Entry) → Listed es →
     acceptable_list a s L y n es ≡ true → LawfulList a L s.shelf s.wish es
-acceptable_lawful a s L y n es l h =
-    let (u, v) = and_parts (every es (λ x. ltb x a.n)) _ h in
-    let (lead, f) = and_parts _ _ v in
-    let (me, shelf, wish) = fits_on a.depot _ _ es f in
-    record {
-      begun = record {
-        rises = l.rises;
-        depots = every_all a.n es u;
-        wishes = l.wishes;
-        sum_within = l.sum_within;
-      };
-      lead = lead;
-      me = me;
-      own_shelf = shelf;
-      own_wish = wish;
-    }
+acceptable_lawful a s L y n es l h = grind (arith, every_all, fits_on)
 
 -- a list with d and another depot
 pub two : (d : ℕ) (ℓ : List Entry) → on ℓ d ≡ true → every ℓ (has (mark d)) ≡ false → 2 ≤ length ℓ

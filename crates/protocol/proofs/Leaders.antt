@@ -7,8 +7,8 @@ use Rattle.std.proofs.lemmas.Bool.Decides.{nat_tests}
 use Rattle.std.proofs.lemmas.Bool.{cases_eq, false≢true}
 use Rattle.entries.specs.declared.lists.Entry.{Entry}
 use Rattle.letters.specs.Contents.{Contents}
-use Rattle.entries.specs.Sets.{has, mark}
-use Rattle.entries.specs.Lists.{on, insert, names}
+use Rattle.entries.specs.Sets.{has}
+use Rattle.entries.specs.Lists.{on, insert}
 use Rattle.protocol.specs.Law.{HasAccepted}
 use Rattle.protocol.specs.Policy.{Policy}
 use Rattle.protocol.specs.State.{upd, State, others}
@@ -28,10 +28,7 @@ use Rattle.protocol.proofs.SafeNext.{case, grows, le_on, lists_kept, now_d}
 -- the others on a list
 pub on_others : (N : ℕ) (P : Policy) (d : ℕ) (ℓ : List Entry) (y : ℕ) → on ℓ y ≡ true → (y ≡ d → ⊥) →
     has (others (site_of N P d) ℓ) y ≡ true
-on_others N P d ℓ y h n = elim (mark_tells d y) [
-  | inl q ↦ absurd (n q.0)
-  | inr q ↦ has_less (names ℓ) (mark d) y ∙ rw (has_names ℓ y ∙ h, q.1) refl
-]
+on_others N P d ℓ y h n = grind (arith, nat_tests, upd_tells, has_less, has_names, mark_tells)
 
 on_insert : (e : Entry) (ℓ : List Entry) (y : ℕ) → on (insert e ℓ) y ≡ true → (e.depot ≡ y) ⊎ (on ℓ y ≡ true)
 unfolding on insert
@@ -121,11 +118,7 @@ module _ {N : ℕ} {w : History} {d : ℕ} (d<N : d < N) (g : Safe N w)
     ]
 
     gathered_d : (y : ℕ) → (s.rows d).standing ≡ 1 → on s.gathered y ≡ true → 1 ≤ w'.past y d (s.rows d).number
-    gathered_d y h k = elim (own_row_move does) [
-      | keeps e f c st ↦ at_least y d _ 1 (rw e (c h y k))
-      | leads e f c n u ↦ grind (arith, nat_tests, upd_tells, mark_tells)
-      | proposes e f c n ↦ absurd (omega arith)
-    ]
+    gathered_d y h k = grind (arith, nat_tests, at_least, mark_tells, own_row_move, upd_tells)
 
     -- of a list that stood before the call
     old_offered : (L n y : ℕ) → HasAccepted (w.past L L n) → on (w'.lists L n) y ≡ true →
@@ -152,53 +145,11 @@ module _ {N : ℕ} {w : History} {d : ℕ} (d<N : d < N) (g : Safe N w)
 
     owing_d : (y : ℕ) → HasAccepted (s.rows d).standing → on (w'.lists d (s.rows d).number) y ≡ true →
         (y ≡ d) ⊎ ((has s.owing y ≡ true) ⊎ (3 ≤ w'.past y d (s.rows d).number))
-    owing_d y a k = go (own_row_move does)
-      where
-        went : (s.rows d).number ≡ number w d d → 3 ≤ w.past y d (number w d d) → 3 ≤ w'.past y d (s.rows d).number
-        went e h = at_least y d _ 3 (rw e h)
-
-        old : (s.rows d).number ≡ number w d d → HasAccepted (standing w d d) →
-            (y ≡ d) ⊎ ((has (w.at d).owing y ≡ true) ⊎ (3 ≤ w.past y d (number w d d)))
-        old e b =
-            l.owing d y b (ap (λ u. on u y)
-            (ap (w.lists d) (sym e) ∙ sym
-            (listed d _ (subst HasAccepted (sym ((g.own d).now d) ∙ ap (w.past d d) (sym e)) b))) ∙ k)
-
-        go : OwnRowMove N w d s → (y ≡ d) ⊎ ((has s.owing y ≡ true) ⊎ (3 ≤ w'.past y d (s.rows d).number))
-        go (keeps e f c st) = ⊎_map (λ u. u)
-            (λ u. elim u [ inl v ↦ ⊎_map (λ x. x) (went e) (st y v) | inr v ↦ inr (went e v) ]) (old e (f a))
-        go (leads e f c n u) = absurd (omega arith)
-        go (proposes e f c n) = grind (arith, nat_tests, upd_tells, mark_tells)
+    owing_d y a k = grind (arith, nat_tests, at_least, listed, mark_tells, own_row_move, upd_tells)
 
     over_d : (n y : ℕ) → HasAccepted (w'.past d d n) → n < (s.rows d).number → on (w'.lists d n) y
         ≡ true → 3 ≤ w'.past y d n
-    over_d n y a b k = go (own_row_move does)
-      where
-        before : HasAccepted (w.past d d n)
-        before = grind (arith, nat_tests, upd_tells, mark_tells)
-
-        go : OwnRowMove N w d s → 3 ≤ w'.past y d n
-        go (keeps e f c st) = old_over d n y before (omega arith) k
-        go (proposes e f c h) = old_over d n y before (omega arith) k
-        go (leads e f c h u) = elim (cases_eq n (number w d d)) [
-          | inl q ↦ last q
-          | inr q ↦ old_over d n y before (omega arith) k
-        ]
-          where
-            last : n ≡ number w d d → 3 ≤ w'.past y d n
-            last q =
-                let bef = before in
-                let r : w.past d d n ≡ standing w d d = ap (w.past d d) q ∙ (g.own d).now d in
-                let m : on (w.lists d n) y ≡ true = sym (ap (λ u. on u y) (listed d n before)) ∙ k in
-                let x : standing w d d ≤ 2 → ⊥ = λ v. h (omega arith) in
-                at_least y d n 3
-                (elim (l.owing d y (omega arith) (ap (λ v. on (w.lists d v) y) (sym q) ∙ m)) [
-                  | inl v ↦ rw v (omega arith)
-                  | inr v ↦ elim v [
-                    | inl c' ↦ absurd (has_none y (rw u at c'))
-                    | inr c' ↦ rw q c'
-                  ]
-                ])
+    over_d n y a b k = grind (arith, nat_tests, at_least, has_none, listed, mark_tells, old_over, own_row_move, upd_tells)
 
     pub leaders_next : (o : Option Contents) → LeadersKnow N (next w d s o)
     leaders_next o =

@@ -1,5 +1,5 @@
 -- Every letter that a lawful record sends is one that reading accepts: its values are those that the law bounds.
-use Rattle.std.proofs.Common.{ℕ, ◌≤◌, List, [], ◌∷◌, refl, arith}
+use Rattle.std.proofs.Common.{ℕ, ◌≤◌, List, [], ◌∷◌, arith}
 use Rattle.entries.specs.declared.lists.Entry.{Entry}
 use Rattle.letters.specs.declared.letter.Kind.{Kind}
 use Rattle.letters.specs.declared.letter.Kind.TheVariants as kinds
@@ -56,17 +56,4 @@ module _ (a : Site) (s : State) (law : Law a s) (to L : ℕ) (high : Below max_d
 -- the own entry as some record of this site has it
 pub offering : (a : Site) (s t : State) → Law a s → Law a t → (to L : ℕ) → Below max_depots to →
     1 ≤ (t.rows L).standing → Readable (mail a t kinds.Offer to L (own a s ∷ []))
-offering a s t law law' to L high row =
-    mail_lawful a t law' to L high row kinds.Offer (own a s ∷ [])
-    (record {
-      one = refl;
-      own = (refl, tt);
-      lawful = (
-        record {
-          depot_below = omega arith;
-          wish_within = law.stock.wish;
-          shelf_within = omega arith;
-        },
-        tt,
-      );
-    })
+offering a s t law law' to L high row = grind (arith, mail_lawful)

@@ -1,11 +1,9 @@
 -- Every effect leaves all rows as they were or moves one: the row in which the depot is engaged, or a new number where
 -- it is engaged in none.
-use Rattle.std.proofs.Common.{◌≡◌, ℕ, ◌<◌, ◌≤◌, ◌⊎◌, List, sym, refl, ap, ◌∙◌, ap₂, inl, inr, arith}
+use Rattle.std.proofs.Common.{◌≡◌, ℕ, ◌<◌, ◌≤◌, ◌⊎◌, List, sym, refl, ap, ◌∙◌, inl, inr, arith}
 use Rattle.entries.specs.declared.lists.Entry.{Entry}
-use Rattle.entries.specs.Sets.{has}
-use Rattle.entries.specs.Lists.{on, entry_of}
+use Rattle.entries.specs.Lists.{on}
 use Rattle.protocol.specs.Law.{HasAccepted, Engages}
-use Rattle.protocol.specs.Listing.{every}
 use Rattle.protocol.specs.Policy.{Policy}
 use Rattle.protocol.specs.State.{State, upd}
 use Rattle.protocol.proofs.InSets.{add_tells, of_mark, mark_self, in_pair, self_pair, head_pair}
@@ -20,19 +18,7 @@ use Rattle.protocol.proofs.History.RowMove.{still, moves}
 module _ {N : ℕ} {w : History} {d : ℕ} (d<N : d < N) (g : Safe N w) where
   as_it_was : {s : State} → s.rows ≡ (w.at d).rows → s.list ≡ (w.at d).list → s.heard ≡ (w.at d).heard →
       s.shelf ≡ (w.at d).shelf → RowMove N w d s
-  as_it_was e f h k =
-      still e (λ L b. (
-        f,
-        (λ y q. g.heard d L y b (sym (ap (λ u. has u y) h) ∙ q)),
-        let c = g.held d L b in
-            record {
-              me = ap (λ u. on u d) f ∙ c.me;
-              mine = ap (λ u. (entry_of u d).shelf) f ∙ (c.mine ∙ sym k);
-              self = ap (λ u. has u d) h ∙ c.self;
-              head = ap (λ u. has u L) h ∙ c.head;
-              waits = ap₂ (λ u v. every u (has v)) f h ∙ c.waits;
-            },
-      ))
+  as_it_was e f h k = grind arith
 
   one_at : (L : ℕ) → Engages (standing w d L) → (M : ℕ) → Engages (standing w d M) →
       (M ≡ L) × (number w d M ≡ number w d L)

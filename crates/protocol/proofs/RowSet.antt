@@ -1,6 +1,6 @@
 -- The law of a record after one row has changed, and after a depot was struck from owing. A row that changes is the one
 -- in which the depot was engaged, or the depot was engaged in none: so no other row is engaged after it.
-use Rattle.std.proofs.Common.{◌≡◌, ℕ, ◌+◌, ◌<◌, ◌≤◌, Bool, true, false, cond, not, ◌||◌, eqb, ◌⊎◌, [], sym, refl, ap, ◌∙◌, subst, inl, inr, arith}
+use Rattle.std.proofs.Common.{◌≡◌, ℕ, ◌+◌, ◌<◌, ◌≤◌, Bool, true, false, cond, not, ◌||◌, eqb, ◌⊎◌, [], sym, refl, ap, ◌∙◌, inl, inr, arith}
 use Rattle.std.proofs.lemmas.Bool.Decides.{nat_tests}
 use Rattle.std.proofs.lemmas.Bool.{and_parts}
 use Rattle.entries.specs.Limits.{max_wish, max_shelf}
@@ -91,13 +91,7 @@ module _ (a : Site) (s t : State) (L m k : ℕ) (law : Law a s) (h : Turned a s 
   own_row n = elim (at a.depot) [ inl (u, _) ↦ absurd (n (sym u)) | inr (_, q) ↦ q ]
 
   owes_now : (t.owing ≡ 0) ⊎ HasAccepted (t.rows a.depot).standing
-  owes_now =
-      elim h.owes [
-        | inl z ↦ inl z
-        | inr (inl (q, u)) ↦
-            inr (rw q at (subst HasAccepted (sym stands_at) u))
-        | inr (inr (q, u)) ↦ inr (rw (own_row q) u)
-      ]
+  owes_now = grind (arith, nat_tests, upd_tells, at, own_row, stands_at)
 
   pub turned_law : Law a t
   turned_law =

@@ -1,10 +1,9 @@
 -- A call keeps what holds of every history: a standing moves on only, in one of six ways, and what a letter vouches for
 -- stays so.
-use Rattle.std.proofs.Common.{◌≡◌, ℕ, ◌<◌, ◌≤◌, true, ◌&&◌, eqb, ◌⊎◌, List, sym, refl, ap, ◌∙◌, subst, inl, inr, arith}
+use Rattle.std.proofs.Common.{◌≡◌, ℕ, ◌<◌, ◌≤◌, true, ◌⊎◌, List, sym, refl, ap, ◌∙◌, inl, inr, arith}
 use mathlib.Core.Path.{fun_ext}
 use mathlib.Core.Option.{Option, none, some}
 use Rattle.std.proofs.lemmas.Bool.Decides.{nat_tests}
-use Rattle.std.proofs.lemmas.Bool.{cond_both, cases_eq}
 use Rattle.entries.specs.declared.lists.Entry.{Entry}
 use Rattle.letters.specs.declared.letter.Kind.{Kind}
 use Rattle.letters.specs.declared.letter.Kind.TheVariants as kinds
@@ -14,7 +13,6 @@ use Rattle.entries.specs.Lists.{on}
 use Rattle.protocol.specs.Law.{HasAccepted, Engages}
 use Rattle.protocol.specs.Series.{Among, posted}
 use Rattle.protocol.specs.State.{upd, State}
-use Rattle.protocol.specs.Taking.{kind_of}
 use Rattle.protocol.proofs.Tests.{upd_tells}
 use Rattle.protocol.proofs.History.{History, next}
 use Rattle.protocol.proofs.History.{standing, number, StandingMove, HoldsList, RowMove, OwnPast, Safe, Vouches, Backed}
@@ -137,14 +135,7 @@ module _ {N : ℕ} {w : History} {d : ℕ} (g : Safe N w) {s : State} (mv : RowM
   ]
 
   live_d : (L n : ℕ) → Engages (w'.past d L n) → (s.rows L).number ≡ n
-  live_d L n h = elim (cases_eq n (s.rows L).number) [ inl e ↦ sym e | inr e ↦ go (grind (arith, nat_tests)) ]
-    where
-      go : w'.past d L n ≡ w.past d L n → (s.rows L).number ≡ n
-      go k =
-          let a : Engages (w.past d L n) = omega arith in
-          let q = (g.own d).live L n a in
-          let b : Engages (standing w d L) = rw (ap (w.past d L) (sym q) ∙ (g.own d).now L) at a in
-          engaged L b ∙ q
+  live_d L n h = grind (arith, nat_tests, upd_tells, engaged)
 
   pub own_d : OwnPast (w'.past d) s
   own_d =
@@ -173,14 +164,7 @@ module _ {N : ℕ} {w : History} {d : ℕ} (g : Safe N w) {s : State} (mv : RowM
           at_M (a, b, c, x) = new (rw n a) (rw n b) c x
 
   pub lists_kept : (L n : ℕ) → HasAccepted (w.past L L n) → w'.lists L n ≡ w.lists L n
-  lists_kept L n a = cond_both _ _ _ (λ ℓ. ℓ ≡ w.lists L n) (λ e. go e (held L (grind (arith, nat_tests)))) (λ e. refl)
-    where
-      go : (eqb L d && (eqb n (s.rows L).number && eqb (s.rows L).standing 2)) ≡ true →
-          Held w d s L → s.list ≡ w.lists L n
-      go e (old b m l f x) = grind (arith, nat_tests, upd_tells)
-      go e (new b c f x) = let p : L ≡ d = grind (arith, nat_tests) in
-          let r : n ≡ (s.rows L).number = grind (arith, nat_tests) in
-          absurd (let k : w.past L L n ≡ 1 = rw (r, p) (rw p at b) in omega arith)
+  lists_kept L n a = grind (arith, nat_tests, held, old, upd_tells)
 
   pub list_d : (L : ℕ) → (s.rows L).standing ≡ 2 → s.list ≡ w'.lists L (s.rows L).number
   list_d L h = elim (held L h) [
@@ -193,29 +177,10 @@ module _ {N : ℕ} {w : History} {d : ℕ} (g : Safe N w) {s : State} (mv : RowM
   ]
 
   asked_d : (L n : ℕ) → 1 ≤ w'.past d L n → 1 ≤ w'.past L L n
-  asked_d L n a = elim (turn L n) [
-    | same e ↦ up (omega arith)
-    | opens b e (inl c) ↦ subst (λ z. 1 ≤ w'.past z L n) (sym c) a
-    | opens b e (inr c) ↦ grind (arith, nat_tests, upd_tells)
-    | binds b e c ↦ up (omega arith)
-    | refuses b e ↦ up (omega arith)
-    | settles b e c f m ↦ up (omega arith)
-    | drops b e c y f h ↦ up (omega arith)
-  ]
-    where
-      up : 1 ≤ w.past d L n → 1 ≤ w'.past L L n
-      up h = grind (arith, nat_tests, upd_tells)
+  asked_d L n a = grind (arith, nat_tests, turn, upd_tells)
 
   led_d : (L n : ℕ) → HasAccepted (w'.past d L n) → HasAccepted (w'.past L L n)
-  led_d L n a = elim (turn L n) [
-    | same e ↦ accs L L n (g.led d L n (omega arith))
-    | opens b e c ↦ absurd (omega arith)
-    | binds b e (inl c) ↦ grind (arith, nat_tests, upd_tells)
-    | binds b e (inr c) ↦ accs L L n c
-    | refuses b e ↦ absurd (omega arith)
-    | settles b e c f m ↦ accs L L n c
-    | drops b e c y f h ↦ accs L L n c
-  ]
+  led_d L n a = grind (arith, nat_tests, accs, turn, upd_tells)
 
   heard_d : (L y : ℕ) → (s.rows L).standing ≡ 2 → has s.heard y ≡ true →
       HasAccepted (w'.past y L (s.rows L).number)
@@ -254,20 +219,10 @@ module _ {N : ℕ} {w : History} {d : ℕ} (g : Safe N w) {s : State} (mv : RowM
   old_settled x L n y h k = accs y L n (g.settled x L n y h (rw (lists_kept L n (g.led x L n (omega arith))) at k))
 
   old_dropped : (x L n : ℕ) → w.past x L n ≡ 5 → (y : ℕ) × (on (w'.lists L n) y ≡ true) × (w'.past y L n ≡ 3)
-  old_dropped x L n h =
-      let q = g.dropped x L n h in
-      let a : HasAccepted (w.past L L n) = g.led x L n (omega arith) in
-      (q.0, ap (λ ℓ. on ℓ q.0) (lists_kept L n a) ∙ q.1, at_on _ _ (grows q.0 L n) (omega arith) ∙ q.2)
+  old_dropped x L n h = grind (arith, nat_tests, upd_tells, at_on, grows, lists_kept)
 
   settled_d : (L n y : ℕ) → w'.past d L n ≡ 4 → on (w'.lists L n) y ≡ true → HasAccepted (w'.past y L n)
-  settled_d L n y h k = elim (turn L n) [
-    | same e ↦ old_settled d L n y (omega arith) k
-    | opens b e c ↦ absurd (omega arith)
-    | binds b e c ↦ absurd (omega arith)
-    | refuses b e ↦ absurd (omega arith)
-    | settles b e c f m ↦ grind (arith, nat_tests, upd_tells)
-    | drops b e c z f q ↦ absurd (omega arith)
-  ]
+  settled_d L n y h k = grind (arith, nat_tests, old_settled, turn, upd_tells)
 
   dropped_d : (L n : ℕ) → w'.past d L n ≡ 5 → (y : ℕ) × (on (w'.lists L n) y ≡ true) × (w'.past y L n ≡ 3)
   dropped_d L n h = elim (turn L n) [
@@ -280,10 +235,7 @@ module _ {N : ℕ} {w : History} {d : ℕ} (g : Safe N w) {s : State} (mv : RowM
   ]
 
   old_letter : (m : Contents) → Among m w.sent → Backed w' m
-  old_letter m h = vouches_on (kind_of m.kind) m.sender m.leader _ _ _ _ _
-      (grows m.sender m.leader m.number)
-      (λ a ℓ q. q ∙ sym (lists_kept m.leader m.number (g.led m.sender m.leader m.number a)))
-      (g.letter m h)
+  old_letter m h = grind (arith, nat_tests, upd_tells, grows, lists_kept, vouches_on)
 
   new_letter : (m : Contents) → Vouched d s (some m) → Backed w' m
   new_letter m (e, f, t) = grind (arith, nat_tests, upd_tells)

@@ -1,8 +1,8 @@
 -- Functions changed at a place, and tests over numbers below a limit and over the depots of a list, told as cases.
-use Rattle.std.proofs.Common.{◌≡◌, ℕ, zero, suc, ◌<◌, Bool, true, false, cond, ◌&&◌, eqb, ◌⊎◌, List, [], ◌∷◌, refl, inl, inr, arith}
+use Rattle.std.proofs.Common.{◌≡◌, ℕ, zero, suc, ◌<◌, Bool, true, false, ◌&&◌, eqb, ◌⊎◌, List, [], ◌∷◌, refl, inl, inr, arith}
 use Rattle.std.specs.Bool.{Decides}
 use Rattle.std.proofs.lemmas.Bool.Decides.{Decides-below_or}
-use Rattle.std.proofs.lemmas.Bool.{false_from_ne_true, eqb-true, eqb-false, eq-eqb, cond_both, and_parts, or_cases, or_left, or_right, cases_eq, and_from, both_ways}
+use Rattle.std.proofs.lemmas.Bool.{false_from_ne_true, eq-eqb, cond_both, and_parts, or_cases, or_left, or_right, cases_eq, and_from, both_ways}
 use Rattle.entries.specs.declared.lists.Entry.{Entry}
 use Rattle.entries.specs.Lists.{on}
 use Rattle.protocol.specs.Listing.{every}
@@ -11,11 +11,7 @@ use Rattle.protocol.specs.State.{upd, pick, any, found}
 pub upd_tells : {A : Type 0} (f : ℕ → A) (k : ℕ) (v : A) (x : ℕ) → ((x ≡ k) × (upd f k v x ≡ v))
     ⊎ ((x ≡ k → ⊥) × (upd f k v x ≡ f x))
 unfolding upd
-upd_tells f k v x = go (eqb x k) refl
-  where
-    go : (b : Bool) → eqb x k ≡ b → ((x ≡ k) × (cond b v (f x) ≡ v)) ⊎ ((x ≡ k → ⊥) × (cond b v (f x) ≡ f x))
-    go true e = inl (eqb-true x k e, refl)
-    go false e = inr (eqb-false x k e, refl)
+upd_tells f k v x = grind arith
 
 -- both ways of a test
 pub by : {A : Type 0} (Q : A → Type 0) {b : Bool} {x y : A} → (b ≡ true → Q x) → (b ≡ false → Q y) → Q (pick b x y)
