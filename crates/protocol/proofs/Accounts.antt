@@ -2,7 +2,6 @@
 -- agree, since one that has settled excludes one that refused, and pieces are conserved, by the dues of every call.
 use Rattle.std.proofs.Common.{◌≡◌, ℕ, ◌+◌, ◌≤◌, Bool, true, false, cond, ◌&&◌, ◌||◌, eqb, ◌⊎◌, List, [], ◌∷◌, sym, refl, ap, ◌∙◌, arith}
 use mathlib.Core.Path.{fun_ext}
-use Rattle.std.proofs.lemmas.Bool.Decides.{nat_tests}
 use Rattle.std.proofs.lemmas.Bool.{eq-eqb, ne_eqb, and_from, cond-true}
 use Rattle.entries.specs.declared.lists.Entry.{Entry}
 use Rattle.protocol.specs.Calls.{Call, Hand, once, accepts, ends_at}
@@ -19,7 +18,7 @@ use Rattle.protocol.proofs.Sums.{sum_same}
 use Rattle.protocol.proofs.History.{past_of, lists_of, history}
 use Rattle.protocol.proofs.Dues.{balance}
 use Rattle.protocol.proofs.Firm.{firmly, due_of, due_no, due as dueBy}
-use Rattle.protocol.proofs.History.{has_accepted, acc_true, true_acc}
+use Rattle.protocol.proofs.History.{has_accepted, true_acc}
 use Rattle.protocol.proofs.Counted.{ended_next, accepted_next}
 use Rattle.protocol.proofs.Invariant.{Invariant, Handled, by_call, hand_is, hand_history, invariant}
 
@@ -29,19 +28,19 @@ zero_more n = omega arith
 -- a row that stays is not accepted and not ended
 accepts_same : (r : Row) → accepts r r ≡ false
 unfolding accepts
-accepts_same r = grind (arith, nat_tests)
+accepts_same r = grind arith
 
 ends_same : (k : ℕ) (r : Row) → 3 ≤ k → ends_at k r r ≡ false
 unfolding ends_at engages
-ends_same k r h = grind (arith, nat_tests)
+ends_same k r h = grind arith
 
 -- nor does anything else that is tested with it count
 never : (n : ℕ) (c e f : Bool) → f ≡ false → n + once (c && (e && f)) ≡ n
-never n c e f h = grind (arith, nat_tests)
+never n c e f h = grind arith
 
 pick_never : {A : Type 0} (c e f : Bool) (x y : A) → f ≡ false → pick (c && (e && f)) x y ≡ y
 unfolding pick
-pick_never c e f x y h = grind (arith, nat_tests)
+pick_never c e f x y h = grind arith
 
 pub record Accounted {P : Policy} {o : Opening} {w : Stage} (s : Series P o (just_opened o) w) : Type 0 where
   pub settled : (x L n : ℕ) → w.settled x L n ≡ once (eqb (past_of s x L n) 4)
@@ -115,14 +114,14 @@ module _ {P : Policy} (lawful : LawfulPolicy P) {o : Opening} where
 
     -- once ended at m, the last standing is m
     last_is : (k m : ℕ) → 1 ≤ once (eqb k m) → k ≡ m
-    last_is k m e = grind (arith, nat_tests)
+    last_is k m e = grind arith
 
     -- what a depot has accepted is the list of the handover, or nothing
     accepted_of : (y L n : ℕ) → HasAccepted (past_of s y L n) → w.accepted y L n ≡ lists_of s L n ∷ []
     accepted_of y L n a = t.accepted y L n ∙ cond-true _ _ _ (true_acc _ a)
 
     none_other : (y L n : ℕ) → (w.accepted y L n ≡ []) ⊎ (w.accepted y L n ≡ lists_of s L n ∷ [])
-    none_other y L n = grind (arith, nat_tests, acc_true, accepted_of, t)
+    none_other y L n = grind (arith, t)
 
     not_dropped : (x L n y : ℕ) → past_of s x L n ≡ 4 → past_of s y L n ≡ 5 → ⊥
     not_dropped x L n y p q = let (z, l, r) = h.safe.dropped y L n q in (h.safe.settled x L n z p l).1 r
@@ -166,11 +165,11 @@ module _ {P : Policy} (lawful : LawfulPolicy P) {o : Opening} where
 
     firm_is : (x : ℕ) → bound_to_standing o w x ≡ firmly o.n (past_of s) (w.at x).rows (w.at x).list
     unfolding bound_to_standing firmly
-    firm_is x = grind (arith, nat_tests, stands_is)
+    firm_is x = grind (arith, stands_is)
 
     due_is : (x : ℕ) → due P o w x ≡ dueBy o.n P (history s) x
     unfolding due due_of pick
-    due_is x = grind (arith, nat_tests, dueBy, due_no, firm_is, h, zero_more)
+    due_is x = grind (arith, due_no, firm_is, h, zero_more)
 
     pub conservation : Conservation P o w
     conservation = let e = sum_same o.n (due P o w) (dueBy o.n P (history s)) (λ x _. due_is x) in

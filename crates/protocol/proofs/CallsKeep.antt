@@ -322,7 +322,7 @@ module _ (P : Policy) (lawful : LawfulPolicy P) (a : Site) (s₀ : State) (law�
       denied)))
     where
       owing_below : Below max_depots s₀.owing
-      owing_below y h = grind (arith, add_tells)
+      owing_below y h = grind arith
 
       row : (n : ℕ) → eqb (s₀.rows a.depot).standing n ≡ true → (s₀.rows a.depot).standing ≡ n
       row n e = eqb-true _ n e

@@ -31,7 +31,7 @@ same_once false false e = refl
 
 not_yet : (k : ℕ) → k ≡ 1 → has_accepted k ≡ false
 unfolding has_accepted
-not_yet k e = grind (arith, nat_tests)
+not_yet k e = grind arith
 
 -- the tests of a call for the row of L, and the standings before and after: k and j are the same while the row is
 -- engaged
@@ -40,20 +40,20 @@ module _ (c : ℕ) (w : History) (d L n k k' j j' : ℕ) (f : k' ≡ j')
   accepts_row : c ≡ once (has_accepted k) → StandingMove w d L n k k' →
       c + once (eqb j 1 && (eqb j' 2 || eqb j' 4)) ≡ once (has_accepted k')
   unfolding has_accepted
-  accepts_row e (same q) = grind (arith, nat_tests)
-  accepts_row e (opens p q _) = grind (arith, nat_tests)
-  accepts_row e (binds p q _) = grind (arith, nat_tests)
-  accepts_row e (refuses p q) = grind (arith, nat_tests)
-  accepts_row e (settles p q _ _ _) = grind (arith, nat_tests)
+  accepts_row e (same q) = grind arith
+  accepts_row e (opens p q _) = grind arith
+  accepts_row e (binds p q _) = grind arith
+  accepts_row e (refuses p q) = grind arith
+  accepts_row e (settles p q _ _ _) = grind arith
   accepts_row e (drops p q _ _ _ _) = grind (arith, nat_tests)
 
   ends_row : (m : ℕ) → 4 ≤ m → c ≡ once (eqb k m) → StandingMove w d L n k k' →
       c + once ((eqb j 1 || eqb j 2) && eqb j' m) ≡ once (eqb k' m)
-  ends_row m l e (same q) = grind (arith, nat_tests)
-  ends_row m l e (opens p q _) = grind (arith, nat_tests)
-  ends_row m l e (binds p q _) = grind (arith, nat_tests)
-  ends_row m l e (refuses p q) = grind (arith, nat_tests)
-  ends_row m l e (settles p q _ _ _) = grind (arith, nat_tests)
+  ends_row m l e (same q) = grind arith
+  ends_row m l e (opens p q _) = grind arith
+  ends_row m l e (binds p q _) = grind arith
+  ends_row m l e (refuses p q) = grind arith
+  ends_row m l e (settles p q _ _ _) = grind arith
   ends_row m l e (drops p q _ _ _ _) = grind (arith, nat_tests)
 
 module _ {N : ℕ} {P : Policy} {w : History} {d : ℕ} {z : Type 0} {ℓ₀ : List Entry} (d<N : d < N) (g : Safe N w)
@@ -70,7 +70,7 @@ module _ {N : ℕ} {P : Policy} {w : History} {d : ℕ} {z : Type 0} {ℓ₀ : L
   tray_empty L e f = go s refl does
     where
       kept : (t : State) → s ≡ t → t.rows ≡ (w.at d).rows → ℓ₀ ≡ w'.lists L (s.rows L).number
-      kept t q r = grind (arith, nat_tests, upd_tells)
+      kept t q r = grind arith
 
       -- the row of M was set
       set : (t : State) (M m k : ℕ) → s ≡ t → t.rows ≡ upd (w.at d).rows M (record { number = m; standing = k }) →
@@ -80,7 +80,7 @@ module _ {N : ℕ} {P : Policy} {w : History} {d : ℕ} {z : Type 0} {ℓ₀ : L
           ap (λ x. x.rows L) q ∙ ap (λ x. x L) r in
           elim (upd_tells (w.at d).rows M (record { number = m; standing = k }) L) [
             | inl v ↦ (v.0, ap (λ x. x.standing) (u ∙ v.1))
-            | inr v ↦ grind (arith, nat_tests, upd_tells)
+            | inr v ↦ grind arith
           ]
 
       number_set : (t : State) (M m k : ℕ) → s ≡ t → t.rows ≡ upd (w.at d).rows M
@@ -117,7 +117,7 @@ module _ {N : ℕ} {P : Policy} {w : History} {d : ℕ} {z : Type 0} {ℓ₀ : L
   was : (L n : ℕ) → n ≡ (s.rows L).number → (w.past d L n ≡ standing w d L)
       ⊎ ((Engages (standing w d L) → ⊥) × (Engages (w.past d L n) → ⊥))
   was L n e = elim (cases_eq (number w d L) n) [
-    | inl u ↦ grind (arith, nat_tests, upd_tells)
+    | inl u ↦ grind arith
     | inr u ↦ inr ((λ b. u (sym (engaged g mv L b) ∙ sym e)), λ b. u ((g.own d).live L n b))
   ]
 
@@ -131,7 +131,7 @@ module _ {N : ℕ} {P : Policy} {w : History} {d : ℕ} {z : Type 0} {ℓ₀ : L
     count_next : (x L n : ℕ) →
         E x L n + once (eqb x d && (eqb n (s.rows L).number && t (standing w d L) (s.rows L).standing))
         ≡ once (T (w'.past x L n))
-    count_next x L n = grind (arith, nat_tests, upd_tells)
+    count_next x L n = grind (arith, nat_tests)
 
   -- how often the handover was ended at m
   pub ended_next : (m : ℕ) → 4 ≤ m → (E : ℕ → ℕ → ℕ → ℕ) → ((x L n : ℕ) → E x L n ≡ once (eqb (w.past x L n) m)) →
@@ -154,7 +154,7 @@ module _ {N : ℕ} {P : Policy} {w : History} {d : ℕ} {z : Type 0} {ℓ₀ : L
       elim (cases_Bool (has_accepted (w.past x L n))) [
         | inl q ↦ ap (λ u. cond (has_accepted (w.past x L n)) (u ∷ []) [])
             (lists_kept g mv L n (g.led x L n (acc_true _ q)))
-        | inr q ↦ grind (arith, nat_tests, upd_tells)
+        | inr q ↦ grind arith
       ]
 
   pub accepted_next : (A : ℕ → ℕ → ℕ → List (List Entry)) →

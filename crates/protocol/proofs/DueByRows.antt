@@ -1,7 +1,6 @@
 -- The records tell what is due: while a depot is bound to a list, the row of its leader has the handover's number in
 -- the record of every depot on that list, so that the row's standing is the last one in the handover.
 use Rattle.std.proofs.Common.{◌≡◌, ℕ, ◌≤◌, Bool, true, false, ◌&&◌, ◌||◌, eqb, List, [], ◌∷◌, refl, ◌∙◌, ap₂, arith}
-use Rattle.std.proofs.lemmas.Bool.Decides.{nat_tests}
 use Rattle.std.proofs.lemmas.Bool.{eq-eqb, or_left, or_right}
 use Rattle.entries.specs.declared.lists.Entry.{Entry}
 use Rattle.entries.specs.Lists.{on}
@@ -32,7 +31,7 @@ and_same false c d f = refl
 -- a standing up to 5 says by its number whether a list was accepted
 accepted_standing : (k : ℕ) → k ≤ 5 → has_accepted k ≡ (eqb k 2 || (eqb k 4 || eqb k 5))
 unfolding has_accepted
-accepted_standing k l = grind (arith, nat_tests)
+accepted_standing k l = grind arith
 
 module _ {P : Policy} (lawful : LawfulPolicy P) {o : Opening} (ok : LawfulOpening o) {w : Stage}
     (s : Series P o (just_opened o) w) where
@@ -49,7 +48,7 @@ module _ {P : Policy} (lawful : LawfulPolicy P) {o : Opening} (ok : LawfulOpenin
     -- a depot on the list has accepted it exactly if its row says so
     row_tells : (y : ℕ) → on (w.at x).list y ≡ true → has_accepted (past_of s y L n) ≡ accepted_by_row w.at L n y
     unfolding accepted_by_row
-    row_tells y listed = grind (arith, nat_tests, accepted_standing, bound_last, h, list_x, pinned)
+    row_tells y listed = grind (arith, accepted_standing, h, list_x, pinned)
 
     stands_by_rows_lem : stands w L n (w.at x).list ≡ stands_by_rows w.at L n (w.at x).list
     unfolding stands_by_rows
@@ -59,11 +58,11 @@ module _ {P : Policy} (lawful : LawfulPolicy P) {o : Opening} (ok : LawfulOpenin
 
   bound_by_rows_lem : (x : ℕ) → bound_to_standing o w x ≡ bound_by_rows o w.at x
   unfolding bound_to_standing bound_by_rows
-  bound_by_rows_lem x = grind (arith, nat_tests, and_same, stands_by_rows_lem)
+  bound_by_rows_lem x = grind (arith, stands_by_rows_lem)
 
   due_rows : (x : ℕ) → due P o w x ≡ due_by_rows P o w.handed w.at x
   unfolding due due_by_rows
-  due_rows x = grind (arith, nat_tests, bound_by_rows_lem)
+  due_rows x = grind (arith, bound_by_rows_lem)
 
 pub due_by_rows_lem : DueByRows
 due_by_rows_lem P lawful o ok w s x = due_rows lawful ok s x

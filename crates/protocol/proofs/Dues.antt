@@ -2,7 +2,6 @@
 -- last acceptance of a list, where each listed depot's due goes from its shelf to its share.
 use Rattle.std.proofs.Common.{◌≡◌, ℕ, ◌+◌, ◌<◌, true, false, cond, ◌⊎◌, List, sym, refl, ap, ◌∙◌, subst, ap₂, inl, inr, arith}
 use mathlib.Core.Option.{none}
-use Rattle.std.proofs.lemmas.Bool.Decides.{nat_tests}
 use Rattle.std.proofs.lemmas.Bool.{cases_Bool, cases_eq, both_ways}
 use Rattle.entries.specs.declared.lists.Entry.{Entry}
 use Rattle.entries.specs.Lists.{on, entry_of}
@@ -30,7 +29,7 @@ module _ {N : ℕ} {w : History} {d : ℕ} (d<N : d < N) (g : Safe N w) {P : Pol
 
   -- d is not bound to a list that stands
   loose : (M : ℕ) → standing w d M ≡ 1 → Firm p (w.at d) → ⊥
-  loose M e (L, a, b) = grind (arith, nat_tests, upd_tells)
+  loose M e (L, a, b) = grind arith
 
   loose_free : Idle w d → Firm p (w.at d) → ⊥
   loose_free f (L, a, b) = f L (omega arith)
@@ -47,7 +46,7 @@ module _ {N : ℕ} {w : History} {d : ℕ} (d<N : d < N) (g : Safe N w) {P : Pol
     NoNew = (x L n : ℕ) → HasAccepted (p' x L n) → HasAccepted (p x L n)
 
     same_past : s.rows ≡ (w.at d).rows → (x L n : ℕ) → p' x L n ≡ p x L n
-    same_past e x L n = grind (arith, nat_tests)
+    same_past e x L n = grind arith
 
     same_new : s.rows ≡ (w.at d).rows → NoNew
     same_new e x L n a = rw (same_past e x L n) at a
@@ -55,7 +54,7 @@ module _ {N : ℕ} {w : History} {d : ℕ} (d<N : d < N) (g : Safe N w) {P : Pol
     -- one point of the past moves
     point : (M m k : ℕ) → s.rows ≡ upd (w.at d).rows M (record { number = m; standing = k }) → (x L n : ℕ) →
         ((x ≡ d) × (L ≡ M) × (n ≡ m) × (p' x L n ≡ k)) ⊎ (p' x L n ≡ p x L n)
-    point M m k e x L n = let r = ap (λ u. u L) e in grind (arith, nat_tests, upd_tells)
+    point M m k e x L n = let r = ap (λ u. u L) e in grind (arith, upd_tells)
 
     set_new : (M m k : ℕ) → s.rows ≡ upd (w.at d).rows M (record { number = m; standing = k }) →
         (HasAccepted k → HasAccepted (p d M m)) → NoNew
@@ -73,7 +72,7 @@ module _ {N : ℕ} {w : History} {d : ℕ} (d<N : d < N) (g : Safe N w) {P : Pol
     -- rows and list as they were
     firm_kept : s.rows ≡ (w.at d).rows → s.list ≡ (w.at d).list → firmly N p' s.rows s.list
         ≡ firmly N p (w.at d).rows (w.at d).list
-    firm_kept e f = grind (arith, nat_tests, upd_tells)
+    firm_kept e f = grind arith
 
     data DueMove (i j : ℕ) : Type 0 where
       calm : NoNew → due_of N P p' s d + i ≡ due_of N P p (w.at d) d + j → DueMove i j
@@ -86,7 +85,7 @@ module _ {N : ℕ} {w : History} {d : ℕ} (d<N : d < N) (g : Safe N w) {P : Pol
           ≡ (w.at d).tray + (w.at d).shelf) → DueMove i j
 
     at_point : (M m k : ℕ) → s.rows ≡ upd (w.at d).rows M (record { number = m; standing = k }) → p' d M m ≡ k
-    at_point M m k e = let r = ap (λ u. u M) e in grind (arith, nat_tests, upd_tells)
+    at_point M m k e = let r = ap (λ u. u M) e in grind (arith, upd_tells)
 
   module _ {s : State} {i j : ℕ} where
     binds : (M : ℕ) (ℓ : List Entry) → s.rows ≡ upd (w.at d).rows M (record { number = number w d M; standing = 2 })
@@ -117,7 +116,7 @@ module _ {N : ℕ} {w : History} {d : ℕ} (d<N : d < N) (g : Safe N w) {P : Pol
     kept : s.rows ≡ (w.at d).rows → s.list ≡ (w.at d).list → s.shelf ≡ (w.at d).shelf →
         s.tray + i ≡ (w.at d).tray + j → DueMove s i j
     unfolding due_of
-    kept e f h k = grind (arith, nat_tests, upd_tells, calm, firm_kept, same_new)
+    kept e f h k = grind (arith, firm_kept)
 
     -- loose before and after
     idle : NoNew s → (Firm p (w.at d) → ⊥) → (Firm (p' s) s → ⊥) →
@@ -186,10 +185,10 @@ module _ {N : ℕ} {w : History} {d : ℕ} (d<N : d < N) (g : Safe N w) {P : Pol
     q = p' s
 
     at_d_now : due N P w' d ≡ due_of N P q s d
-    at_d_now = grind (arith, nat_tests, upd_tells)
+    at_d_now = grind (arith, upd_tells)
 
     there : (x : ℕ) → (x ≡ d → ⊥) → due N P w' x ≡ due_of N P q (w.at x) x
-    there x n = grind (arith, nat_tests, upd_tells)
+    there x n = grind (arith, upd_tells)
 
     -- due to another as before
     unmoved : (x : ℕ) → (x ≡ d → ⊥) → (Firm q (w.at x) → Firm p (w.at x)) → due N P w' x ≡ due N P w x
@@ -214,21 +213,21 @@ module _ {N : ℕ} {w : History} {d : ℕ} (d<N : d < N) (g : Safe N w) {P : Pol
 
       -- who has accepted it before d
       led_by : (x : ℕ) → HasAccepted (p x M n) → ℓ ≡ w.lists M n
-      led_by x a = grind (arith, nat_tests, upd_tells)
+      led_by x a = grind arith
 
       -- bound to it before d
       bound_list : (x : ℕ) → standing w x M ≡ 2 → number w x M ≡ n → (w.at x).list ≡ ℓ
-      bound_list x a f = grind (arith, nat_tests, upd_tells)
+      bound_list x a f = grind arith
 
       -- a list that stands now stood before, but this one
       stood : (x : ℕ) → (standing w x M ≡ 2 → number w x M ≡ n → Firm q (w.at x) → ⊥) →
           Firm q (w.at x) → Firm p (w.at x)
-      stood x refusal_kept (L, a, f) = grind (arith, nat_tests, point, upd_tells)
+      stood x refusal_kept (L, a, f) = grind (arith, point)
 
       module _ (all : (y : ℕ) → on ℓ y ≡ true → HasAccepted (q y M n)) where
         -- everybody else on it is bound to it
         joined : (x : ℕ) → (x ≡ d → ⊥) → on ℓ x ≡ true → (standing w x M ≡ 2) × (number w x M ≡ n)
-        joined x x≢d h = grind (arith, nat_tests, upd_tells)
+        joined x x≢d h = grind arith
 
         -- each listed depot's due goes from its shelf to its share
         goes : (due_of N P q s d ≡ (w.at d).tray + share_of P.share ℓ d) → (x : ℕ) →

@@ -287,7 +287,7 @@ module _ {N : ℕ} (P : Policy) {w : History} {d : ℕ} (z : Type 0) (ℓ₀ : L
       (λ asked. by Ok denied (λ free. step_explained m e₀ ok t (low x) up asked free))))))
     where
       low : (leb N m.sender || (leb N m.leader || eqb m.sender d)) ≡ false → m.leader < N
-      low x = grind (arith, upd_tells, mark_tells, add_tells)
+      low x = grind arith
 
   pub issue_explained : (n : ℕ) → Explained N P w d z ℓ₀ n 0 (issue a s₀ n)
   unfolding issue

@@ -48,7 +48,7 @@ not_firm N p s f = false_from_ne_true _ (λ e. f (firm_of N p s e))
 
 pub firm_same : (N : ℕ) (p p' : ℕ → ℕ → ℕ → ℕ) (s : State) → Low N s → (Firm p s → Firm p' s) → (Firm p' s → Firm p s) →
     firmly N p' s.rows s.list ≡ firmly N p s.rows s.list
-firm_same N p p' s low f f' = grind (arith, firm_of, low, not_firm, of_firm)
+firm_same N p p' s low f f' = grind (arith, not_firm, of_firm)
 
 pub due_yes : (N : ℕ) (P : Policy) (p : ℕ → ℕ → ℕ → ℕ) (s : State) (x : ℕ) → Low N s → Firm p s → due_of N P p s x
     ≡ s.tray + share_of P.share s.list x

@@ -60,7 +60,7 @@ module _ {P : Policy} (lawful : LawfulPolicy P) {o : Opening} (ok : LawfulOpenin
         (d ≡ x → c ≡ Restart → ⊥) → has (w.at x).heard y ≡ true → has ((called P o w d c).at x).heard y ≡ true
     heard_next x L y b e f k =
         elim (still_or_handled lawful ok σ d c a) [
-          | inl q ↦ grind (arith, upd_tells)
+          | inl q ↦ grind arith
           | inr q ↦ elim (upd_tells w.at d t x) [
             | inl (u, v) ↦ rw v (heard_on h.safe L (rw u at b) (f (sym u))
                 q.explained.effect (sym (ap (λ z. (z.rows L).standing) v) ∙ e) y
@@ -223,5 +223,5 @@ module _ {P : Policy} (lawful : LawfulPolicy P) {o : Opening} (ok : LawfulOpenin
       free r x m a f s sp all_back u s'
       (record {
         accepted = ap (λ z. ((u.at x).rows z).standing) q ∙ c.accepted;
-        number = grind (arith, upd_tells);
+        number = grind arith;
       })

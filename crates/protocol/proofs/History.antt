@@ -2,7 +2,6 @@
 -- and what holds of every such history.
 use Rattle.std.proofs.Common.{◌≡◌, ℕ, ◌+◌, ◌-◌, ◌<◌, ◌≤◌, Bool, true, false, cond, not, ◌&&◌, eqb, leb, ◌⊎◌, List, [], ◌∷◌, refl, arith}
 use mathlib.Core.Option.{Option, none, some}
-use Rattle.std.proofs.lemmas.Bool.Decides.{nat_tests}
 use Rattle.std.proofs.lemmas.Bool.{false≢true}
 use Rattle.entries.specs.declared.lists.Entry.{Entry}
 use Rattle.letters.specs.Contents.{Contents}
@@ -243,8 +242,8 @@ has_accepted k = leb 2 k && not (eqb k 3)
 
 pub acc_true : (k : ℕ) → has_accepted k ≡ true → HasAccepted k
 unfolding has_accepted
-acc_true k h = grind (arith, nat_tests)
+acc_true k h = grind arith
 
 pub true_acc : (k : ℕ) → HasAccepted k → has_accepted k ≡ true
 unfolding has_accepted
-true_acc k h = grind (arith, nat_tests)
+true_acc k h = grind arith

@@ -3,7 +3,6 @@
 use Rattle.std.proofs.Common.{◌≡◌, ℕ, zero, suc, ◌<◌, ◌≤◌, true, false, eqb, List, sym, refl, ap, ◌∙◌, ap₂, inl, inr, arith}
 use mathlib.Core.Path.{fun_ext}
 use mathlib.Core.Option.{Option, none, some}
-use Rattle.std.proofs.lemmas.Bool.Decides.{nat_tests}
 use Rattle.std.proofs.lemmas.Bool.{ltb-true, not-false, false≢true, eqb-true, and_parts, or_cases, or_parts, both_ways, cases_eq}
 use Rattle.entries.specs.declared.lists.Entry.{Entry}
 use Rattle.letters.specs.Contents.{Contents, Lawful}
@@ -42,10 +41,10 @@ same_next {w = w} g d = ap (λ u. mk u (next w d (w.at d) none).past (next w d (
     e1 = fun_ext (λ x. elim (upd_tells w.at d (w.at d) x) [ inl u ↦ u.1 ∙ ap w.at (sym u.0) | inr u ↦ u.1 ])
 
     e2 : (next w d (w.at d) none).past ≡ w.past
-    e2 = fun_ext (λ x. fun_ext (λ L. fun_ext (λ n. grind (arith, nat_tests))))
+    e2 = fun_ext (λ x. fun_ext (λ L. fun_ext (λ n. grind arith)))
 
     e3 : (next w d (w.at d) none).lists ≡ w.lists
-    e3 = fun_ext (λ L. fun_ext (λ n. grind (arith, nat_tests)))
+    e3 = fun_ext (λ L. fun_ext (λ n. grind arith))
 
 -- Hand leaves what is there: a record not handed out is as Hand fills it
 pub record Invariant {P : Policy} {o : Opening} {w : Stage} (s : Series P o (just_opened o) w) : Type 0 where
@@ -216,7 +215,7 @@ module _ {P : Policy} {o : Opening} {w : Stage} {s : Series P o (just_opened o) 
             ];
         low = λ x q. elim (or_cases (w.handed x) _ q) [
           | inl z ↦ h.low x z
-          | inr z ↦ grind (arith, nat_tests, upd_tells)
+          | inr z ↦ grind arith
         ];
       }
     where

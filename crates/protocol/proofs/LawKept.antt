@@ -1,6 +1,5 @@
 -- The law of a record over every call, reading included, and of the record that Hand fills.
 use Rattle.std.proofs.Common.{◌≡◌, ℕ, ◌≤◌, true, List, refl, inl, arith}
-use Rattle.std.proofs.lemmas.Bool.Decides.{nat_tests}
 use Rattle.entries.specs.Limits.{max_shelf}
 use Rattle.letters.specs.Bytes.{Bytes}
 use Rattle.letters.specs.Reading.{Answer, refused, letter, reads}
@@ -42,11 +41,11 @@ fresh_lawful a share site limit =
 module _ (P : Policy) (lawful : LawfulPolicy P) (a : Site) (s : State) (law : Law a s) where
   engaged_row : (k : ℕ) → engages k ≡ true → Engages k
   unfolding engages
-  engaged_row k h = grind (arith, nat_tests)
+  engaged_row k h = grind arith
 
   row_engaged : (k : ℕ) → Engages k → engages k ≡ true
   unfolding engages
-  row_engaged k h = grind (arith, nat_tests)
+  row_engaged k h = grind arith
 
   leader_is : (L : ℕ) → Engages (s.rows L).standing → leader a s ≡ L
   unfolding leader

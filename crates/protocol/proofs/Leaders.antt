@@ -28,21 +28,21 @@ use Rattle.protocol.proofs.SafeNext.{case, grows, le_on, lists_kept, now_d}
 -- the others on a list
 pub on_others : (N : ℕ) (P : Policy) (d : ℕ) (ℓ : List Entry) (y : ℕ) → on ℓ y ≡ true → (y ≡ d → ⊥) →
     has (others (site_of N P d) ℓ) y ≡ true
-on_others N P d ℓ y h n = grind (arith, nat_tests, upd_tells, has_less, has_names, mark_tells)
+on_others N P d ℓ y h n = grind (arith, has_less, has_names, mark_tells)
 
 on_insert : (e : Entry) (ℓ : List Entry) (y : ℕ) → on (insert e ℓ) y ≡ true → (e.depot ≡ y) ⊎ (on ℓ y ≡ true)
 unfolding on insert
-on_insert e [] y h = grind (arith, nat_tests, upd_tells, mark_tells)
+on_insert e [] y h = grind (arith, mark_tells)
 on_insert e (a ∷ ℓ) y h = go (ltb e.depot a.depot) (on_insert e ℓ y) h
   where
     go : (b : Bool) → (on (insert e ℓ) y ≡ true → (e.depot ≡ y) ⊎ (on ℓ y ≡ true)) →
         on (cond b (e ∷ (a ∷ ℓ)) (a ∷ insert e ℓ)) y ≡ true → (e.depot ≡ y) ⊎ ((eqb a.depot y || on ℓ y) ≡ true)
-    go true f k = grind (arith, nat_tests, upd_tells, mark_tells)
-    go false f k = grind (arith, nat_tests, upd_tells, mark_tells)
+    go true f k = grind (arith, mark_tells)
+    go false f k = grind (arith, upd_tells, mark_tells)
 
 on_one : (e : Entry) (y : ℕ) → on (e ∷ []) y ≡ true → y ≡ e.depot
 unfolding on
-on_one e y h = grind (arith, nat_tests, upd_tells, mark_tells)
+on_one e y h = grind arith
 
 on_none : (y : ℕ) → on [] y ≡ true → ⊥
 unfolding on
@@ -52,7 +52,7 @@ module _ {N : ℕ} {w : History} {d : ℕ} (d<N : d < N) (g : Safe N w)
     (l : LeadersKnow N w) where
   kept : {s : State} → s.rows d ≡ (w.at d).rows d → s.gathered ≡ (w.at d).gathered →
       Strikes w d s.owing → OwnRowMove N w d s
-  kept e f st = grind (arith, nat_tests, upd_tells, mark_tells)
+  kept e f st = grind arith
 
   -- a row is set that was offered or bound, and nothing is gathered any more
   sets : {s : State} (M k : ℕ) → s.rows ≡ upd (w.at d).rows M (record { number = number w d M; standing = k }) →
@@ -77,7 +77,7 @@ module _ {N : ℕ} {w : History} {d : ℕ} (d<N : d < N) (g : Safe N w)
   own_row_move (hear b L y st e a u) = kept refl refl st
   own_row_move (restart L e b) = kept refl refl (λ y h. inl h)
   own_row_move (lead f u) = leads (grind (arith, upd_tells)) (grind (arith, upd_tells)) (on_one _) (f d) u
-  own_row_move (offer b L n st lt f u a) = grind (arith, nat_tests, upd_tells, mark_tells)
+  own_row_move (offer b L n st lt f u a) = grind (arith, upd_tells)
   own_row_move (gather b e st h a) =
       keeps refl (λ a. a) (λ k y f. elim (on_insert e _ y f) [
         | inl q ↦ rw q at a
@@ -90,7 +90,7 @@ module _ {N : ℕ} {w : History} {d : ℕ} (d<N : d < N) (g : Safe N w)
         elim
             (cases_eq y d) [ inl q ↦ inl q | inr q ↦ inr (on_others N P d _ y k q) ],
       ))
-  own_row_move (accept b L ℓ e₀ st e a q f u) = grind (arith, nat_tests, upd_tells, mark_tells)
+  own_row_move (accept b L ℓ e₀ st e a q f u) = grind (arith, upd_tells, mark_tells)
   own_row_move (join b L ℓ e₀ st e a q f u) = grind (arith, nat_tests, upd_tells, mark_tells)
   own_row_move (refuse b L st e) = grind (arith, nat_tests, upd_tells, mark_tells)
   own_row_move (settle b L st e a) = sets L 4 refl (λ q _. let r = ap (standing w d) q in omega arith) refl st
@@ -118,7 +118,7 @@ module _ {N : ℕ} {w : History} {d : ℕ} (d<N : d < N) (g : Safe N w)
     ]
 
     gathered_d : (y : ℕ) → (s.rows d).standing ≡ 1 → on s.gathered y ≡ true → 1 ≤ w'.past y d (s.rows d).number
-    gathered_d y h k = grind (arith, nat_tests, at_least, mark_tells, own_row_move, upd_tells)
+    gathered_d y h k = grind (arith, own_row_move)
 
     -- of a list that stood before the call
     old_offered : (L n y : ℕ) → HasAccepted (w.past L L n) → on (w'.lists L n) y ≡ true →
@@ -133,23 +133,23 @@ module _ {N : ℕ} {w : History} {d : ℕ} (d<N : d < N) (g : Safe N w)
     offered_d : (n y : ℕ) → HasAccepted (w'.past d d n) → on (w'.lists d n) y ≡ true → (1 ≤ w'.past y d n) × (y < N)
     offered_d n y a k = elim (cases_eq n (s.rows d).number) [
       | inl q ↦ go q (own_row_move does)
-      | inr q ↦ grind (arith, nat_tests, upd_tells, mark_tells)
+      | inr q ↦ grind (arith, mark_tells)
     ]
       where
         go : n ≡ (s.rows d).number → OwnRowMove N w d s → (1 ≤ w'.past y d n) × (y < N)
         go q (keeps e f c st) = old_offered d n y
             (subst HasAccepted (sym ((g.own d).now d) ∙ ap (w.past d d) (sym (q ∙ e)))
             (f (rw (ap (w'.past d d) q ∙ now_d g mv d) at a))) k
-        go q (leads e f c n u) = grind (arith, nat_tests, upd_tells, mark_tells)
-        go q (proposes e f c h) = grind (arith, nat_tests, upd_tells, mark_tells)
+        go q (leads e f c n u) = grind (arith, mark_tells)
+        go q (proposes e f c h) = grind (arith, upd_tells, mark_tells)
 
     owing_d : (y : ℕ) → HasAccepted (s.rows d).standing → on (w'.lists d (s.rows d).number) y ≡ true →
         (y ≡ d) ⊎ ((has s.owing y ≡ true) ⊎ (3 ≤ w'.past y d (s.rows d).number))
-    owing_d y a k = grind (arith, nat_tests, at_least, listed, mark_tells, own_row_move, upd_tells)
+    owing_d y a k = grind (arith, listed, own_row_move, upd_tells)
 
     over_d : (n y : ℕ) → HasAccepted (w'.past d d n) → n < (s.rows d).number → on (w'.lists d n) y
         ≡ true → 3 ≤ w'.past y d n
-    over_d n y a b k = grind (arith, nat_tests, at_least, has_none, listed, mark_tells, old_over, own_row_move, upd_tells)
+    over_d n y a b k = grind (arith, nat_tests, has_none, mark_tells, old_over, own_row_move, upd_tells)
 
     pub leaders_next : (o : Option Contents) → LeadersKnow N (next w d s o)
     leaders_next o =

@@ -33,7 +33,7 @@ module _ {N : ℕ} {w : History} (g : Safe N w) (l : LeadersKnow N w) (x L n : �
   at_n = (g.own x).live L n (omega arith)
 
   pub bound_x : standing w x L ≡ 2
-  bound_x = grind (arith, nat_tests, upd_tells, add_tells)
+  bound_x = grind arith
 
   pub led_x : HasAccepted (w.past L L n)
   led_x = g.led x L n (omega arith)
@@ -42,17 +42,17 @@ module _ {N : ℕ} {w : History} (g : Safe N w) (l : LeadersKnow N w) (x L n : �
   list_x = g.list x L bound_x ∙ ap (w.lists L) at_n
 
   up_to : (y m : ℕ) → 1 ≤ w.past y L m → m ≤ number w y L
-  up_to y m h = grind (arith, nat_tests, upd_tells, add_tells)
+  up_to y m h = grind arith
 
   leader_at_lem : number w L L ≡ n
-  leader_at_lem = grind (arith, nat_tests, upd_tells, add_tells)
+  leader_at_lem = grind arith
 
   pub pinned : (y : ℕ) → on (w.lists L n) y ≡ true → number w y L ≡ n
-  pinned y h = grind (arith, nat_tests, upd_tells, add_tells)
+  pinned y h = grind arith
 
   pub stands : (y : ℕ) → on (w.lists L n) y ≡ true → (1 ≤ standing w y L) × (standing w y L ≤ 5)
       × (standing w y L ≡ 1 → y ≡ L → ⊥)
-  stands y h = grind (arith, nat_tests, upd_tells, add_tells)
+  stands y h = grind arith
 
 -- what is heard stays heard
 module _ {N : ℕ} {w : History} {d : ℕ} (g : Safe N w) (L : ℕ) (b : standing w d L ≡ 2) where
@@ -168,7 +168,7 @@ module _ {N : ℕ} (P : Policy) (x L n y : ℕ) {w : History} (g : Safe N w) (l 
   y<N = (l.offered L n y (led_x g l x L n b) h).1
 
   L<N : L < N
-  L<N = grind (arith, nat_tests, upd_tells, add_tells)
+  L<N = grind arith
 
   reply : (t : State) (k : Kind) → (t.rows L).number ≡ n → IsAnswer k →
       Replies P x L n y (mail (site_of N P y) t k (mark x) L [])
@@ -226,10 +226,10 @@ module _ {N : ℕ} (P : Policy) (x L n y : ℕ) {w : History} (g : Safe N w) (l 
   Heard r = ((after (w.at x) r).rows L).standing ≡ 2 → has (after (w.at x) r).heard y ≡ true
 
   gone : (m k : ℕ) → (k ≡ 2 → ⊥) → (upd (w.at x).rows L (record { number = m; standing = k }) L).standing ≡ 2 → ⊥
-  gone m k f e = grind (arith, nat_tests, upd_tells, add_tells)
+  gone m k f e = grind (arith, upd_tells)
 
   here_bound : (eqb (standing w x L) 2 && on (w.at x).list y) ≡ true
-  here_bound = grind (arith, nat_tests, upd_tells, add_tells)
+  here_bound = grind arith
 
   module _ (c : ℕ) (v : Bool) (es : List Entry) where
     abbrev sˣ : State

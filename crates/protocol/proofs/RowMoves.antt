@@ -22,7 +22,7 @@ module _ {N : ℕ} {w : History} {d : ℕ} (d<N : d < N) (g : Safe N w) where
 
   one_at : (L : ℕ) → Engages (standing w d L) → (M : ℕ) → Engages (standing w d M) →
       (M ≡ L) × (number w d M ≡ number w d L)
-  one_at L e M f = grind (arith, add_tells)
+  one_at L e M f = grind arith
 
   -- the handover in the row of L, in which d is engaged, ends at k
   ends_in : (L k : ℕ) → Engages (standing w d L) → 3 ≤ k → {s : State} →
@@ -33,11 +33,11 @@ module _ {N : ℕ} {w : History} {d : ℕ} (d<N : d < N) (g : Safe N w) where
 
   -- itself and the leader have accepted what d is bound to
   pair_acc : (L : ℕ) → standing w d L ≡ 2 → (y : ℕ) → (y ≡ d) ⊎ (y ≡ L) → HasAccepted (w.past y L (number w d L))
-  pair_acc L b y h = grind (arith, add_tells)
+  pair_acc L b y h = grind arith
 
   pub move_of : {P : Policy} {z : Type 0} {ℓ₀ : List Entry} {s : State} {i j : ℕ} → Effect N P w d z ℓ₀ s i j → RowMove N w d s
   move_of (keep b st) = as_it_was refl refl refl refl
-  move_of (issue n f l) = grind (arith, add_tells)
+  move_of (issue n f l) = grind arith
   move_of (return n f) = still refl (λ L e. absurd (f L (omega arith)))
   move_of (lay n) = as_it_was refl refl refl refl
   move_of (want n f) = as_it_was refl refl refl refl

@@ -1,7 +1,6 @@
 -- The law of a record after one row has changed, and after a depot was struck from owing. A row that changes is the one
 -- in which the depot was engaged, or the depot was engaged in none: so no other row is engaged after it.
 use Rattle.std.proofs.Common.{◌≡◌, ℕ, ◌+◌, ◌<◌, ◌≤◌, Bool, true, false, cond, not, ◌||◌, eqb, ◌⊎◌, [], sym, refl, ap, ◌∙◌, inl, inr, arith}
-use Rattle.std.proofs.lemmas.Bool.Decides.{nat_tests}
 use Rattle.std.proofs.lemmas.Bool.{and_parts}
 use Rattle.entries.specs.Limits.{max_wish, max_shelf}
 use Rattle.entries.specs.Sets.{has, mark, less}
@@ -16,7 +15,7 @@ not_engaged : (a : Site) (s : State) → engaged a s ≡ false → (L : ℕ) →
 unfolding engaged engages
 not_engaged a s h L l e =
     let q = any_none a.n (λ L. eqb (s.rows L).standing 1 || eqb (s.rows L).standing 2) L h l in
-    grind (arith, nat_tests)
+    grind arith
 
 -- a depot that is not engaged is engaged in no row
 pub idle : (a : Site) (s : State) → Law a s → engaged a s ≡ false → (L : ℕ) → Engages (s.rows L).standing → ⊥
@@ -91,7 +90,7 @@ module _ (a : Site) (s t : State) (L m k : ℕ) (law : Law a s) (h : Turned a s 
   own_row n = elim (at a.depot) [ inl (u, _) ↦ absurd (n (sym u)) | inr (_, q) ↦ q ]
 
   owes_now : (t.owing ≡ 0) ⊎ HasAccepted (t.rows a.depot).standing
-  owes_now = grind (arith, nat_tests, upd_tells, at, own_row, stands_at)
+  owes_now = grind (arith, own_row, stands_at)
 
   pub turned_law : Law a t
   turned_law =

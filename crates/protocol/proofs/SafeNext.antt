@@ -3,7 +3,6 @@
 use Rattle.std.proofs.Common.{◌≡◌, ℕ, ◌<◌, ◌≤◌, true, ◌⊎◌, List, sym, refl, ap, ◌∙◌, inl, inr, arith}
 use mathlib.Core.Path.{fun_ext}
 use mathlib.Core.Option.{Option, none, some}
-use Rattle.std.proofs.lemmas.Bool.Decides.{nat_tests}
 use Rattle.entries.specs.declared.lists.Entry.{Entry}
 use Rattle.letters.specs.declared.letter.Kind.{Kind}
 use Rattle.letters.specs.declared.letter.Kind.TheVariants as kinds
@@ -44,7 +43,7 @@ turn_on w d L n k k' (same e) = inl e
 turn_on w d L n k k' (opens a b j) = inr (inl (omega arith))
 turn_on w d L n k k' (binds a b j) = inr (inl (omega arith))
 turn_on w d L n k k' (refuses a b) = inr (inl (omega arith))
-turn_on w d L n k k' (settles a b i j _) = grind (arith, nat_tests, upd_tells)
+turn_on w d L n k k' (settles a b i j _) = grind arith
   where
     two : (k : ℕ) → Engages k → (k ≡ 1) ⊎ (k ≡ 2)
     two k e = grind arith
@@ -58,7 +57,7 @@ vouches_on kinds.List y L k k' es Q Q' m f t = (t.0, acc_on k k' m t.1, f t.1 es
 vouches_on kinds.Yes y L k k' es Q Q' m f t = acc_on k k' m t
 vouches_on kinds.No y L k k' es Q Q' m f t = omega arith
 vouches_on kinds.Settle y L k k' es Q Q' m f t = omega arith
-vouches_on kinds.Drop y L k k' es Q Q' m f t = grind (arith, nat_tests, upd_tells)
+vouches_on kinds.Drop y L k k' es Q Q' m f t = grind arith
 vouches_on kinds.Query y L k k' es Q Q' m f t = acc_on k k' m t
 vouches_on kinds.Done y L k k' es Q Q' m f t = omega arith
 
@@ -76,13 +75,13 @@ module _ {N : ℕ} {w : History} {d : ℕ} (g : Safe N w) {s : State} (mv : RowM
   w' = next w d s none
 
   pub now_d : (L : ℕ) → w'.past d L (s.rows L).number ≡ (s.rows L).standing
-  now_d L = grind (arith, nat_tests)
+  now_d L = grind arith
 
   pub turn : (L n : ℕ) → StandingMove w d L n (w.past d L n) (w'.past d L n)
   turn L n = go mv
     where
       go : RowMove N w d s → StandingMove w d L n (w.past d L n) (w'.past d L n)
-      go (still e f) = grind (arith, nat_tests, upd_tells)
+      go (still e f) = grind arith
       go (moves M m k pos e lt up only t f) =
           elim (at_or L n) [
             | inl (a, b, c) ↦ rw c (rw (a, b) t)
@@ -91,15 +90,15 @@ module _ {N : ℕ} {w : History} {d : ℕ} (g : Safe N w) {s : State} (mv : RowM
         where
           at_or : (L n : ℕ) → ((L ≡ M) × (n ≡ m) × (w'.past d L n ≡ k)) ⊎ (w'.past d L n ≡ w.past d L n)
           at_or L n = let q : s.rows L ≡ upd (w.at d).rows M (record { number = m; standing = k }) L =
-              ap (λ u. u L) e in grind (arith, nat_tests, upd_tells)
+              ap (λ u. u L) e in grind (arith, upd_tells)
 
   pub else_past : (x : ℕ) → (x ≡ d → ⊥) → w'.past x ≡ w.past x
-  else_past x f = fun_ext (λ L. fun_ext (λ n. grind (arith, nat_tests)))
+  else_past x f = fun_ext (λ L. fun_ext (λ n. grind arith))
 
   -- a depot is d, or as it was
   pub case : (x : ℕ) (Q : ℕ → State → (ℕ → ℕ → ℕ) → Type 0) → Q d s (w'.past d) →
       ((x ≡ d → ⊥) → Q x (w.at x) (w.past x)) → Q x (w'.at x) (w'.past x)
-  case x Q a b = grind (arith, nat_tests, upd_tells)
+  case x Q a b = grind (arith, upd_tells)
 
   pub grows : (x L n : ℕ) → Grows (w.past x L n) (w'.past x L n)
   grows x L n = case x (λ x _ p. Grows (w.past x L n) (p L n)) (turn_on w d L n _ _ (turn L n)) (λ _. inl refl)
@@ -110,7 +109,7 @@ module _ {N : ℕ} {w : History} {d : ℕ} (g : Safe N w) {s : State} (mv : RowM
   -- the rows of d
   rise : (L : ℕ) → number w d L ≤ (s.rows L).number
   rise L = elim mv [
-    | still e f ↦ grind (arith, nat_tests, upd_tells)
+    | still e f ↦ grind arith
     | moves M m k pos e lt up only t f ↦
         rw (ap (λ u. u L) e) (elim (upd_tells (w.at d).rows M (record { number = m; standing = k }) L)
         [ inl q ↦ grind arith | inr q ↦ grind arith ])
@@ -124,24 +123,24 @@ module _ {N : ℕ} {w : History} {d : ℕ} (g : Safe N w) {s : State} (mv : RowM
 
   pub one : (L M : ℕ) → Engages (s.rows L).standing → Engages (s.rows M).standing → L ≡ M
   one L M a b = elim mv [
-    | still e f ↦ grind (arith, nat_tests, upd_tells)
+    | still e f ↦ grind arith
     | moves O m k pos e lt up only t f ↦ let r = ap (λ u. u L) e in let r' = ap (λ u. u M) e in grind (arith, upd_tells)
   ]
 
   pub low : (L : ℕ) → 1 ≤ (s.rows L).standing → L < N
   low L a = elim mv [
-    | still e f ↦ grind (arith, nat_tests, upd_tells)
+    | still e f ↦ grind arith
     | moves O m k pos e lt up only t f ↦ let r = ap (λ u. u L) e in grind (arith, upd_tells)
   ]
 
   live_d : (L n : ℕ) → Engages (w'.past d L n) → (s.rows L).number ≡ n
-  live_d L n h = grind (arith, nat_tests, upd_tells, engaged)
+  live_d L n h = grind (arith, engaged)
 
   pub own_d : OwnPast (w'.past d) s
   own_d =
       record {
         now = now_d;
-        later = λ L n h. let r = rise L in grind (arith, nat_tests);
+        later = λ L n h. let r = rise L in grind arith;
         live = live_d;
       }
 
@@ -149,11 +148,11 @@ module _ {N : ℕ} {w : History} {d : ℕ} (g : Safe N w) {s : State} (mv : RowM
   held L h = go mv
     where
       go : RowMove N w d s → Held w d s L
-      go (still e f) = grind (arith, nat_tests, upd_tells)
+      go (still e f) = grind arith
       go (moves M m k pos e lt up only t f) =
           elim (upd_tells (w.at d).rows M (record { number = m; standing = k }) L) [
-            | inl q ↦ grind (arith, nat_tests, upd_tells)
-            | inr q ↦ grind (arith, nat_tests, upd_tells)
+            | inl q ↦ grind arith
+            | inr q ↦ grind (arith, upd_tells)
           ]
         where
           n : (s.rows M).number ≡ m
@@ -164,7 +163,7 @@ module _ {N : ℕ} {w : History} {d : ℕ} (g : Safe N w) {s : State} (mv : RowM
           at_M (a, b, c, x) = new (rw n a) (rw n b) c x
 
   pub lists_kept : (L n : ℕ) → HasAccepted (w.past L L n) → w'.lists L n ≡ w.lists L n
-  lists_kept L n a = grind (arith, nat_tests, held, old, upd_tells)
+  lists_kept L n a = grind (arith, held)
 
   pub list_d : (L : ℕ) → (s.rows L).standing ≡ 2 → s.list ≡ w'.lists L (s.rows L).number
   list_d L h = elim (held L h) [
@@ -172,15 +171,15 @@ module _ {N : ℕ} {w : History} {d : ℕ} (g : Safe N w) {s : State} (mv : RowM
         l
         ∙ (g.list d L b ∙ (ap (w.lists L) (sym m)
         ∙ sym (lists_kept L _ (rw (← m) at (g.led d L _ (acc_2 _ ((g.own d).now L ∙ b)))))))
-    | new b (inl e) f x ↦ grind (arith, nat_tests)
+    | new b (inl e) f x ↦ grind arith
     | new b (inr c) f x ↦ c.1 ∙ sym (lists_kept L _ c.0)
   ]
 
   asked_d : (L n : ℕ) → 1 ≤ w'.past d L n → 1 ≤ w'.past L L n
-  asked_d L n a = grind (arith, nat_tests, turn, upd_tells)
+  asked_d L n a = grind (arith, turn)
 
   led_d : (L n : ℕ) → HasAccepted (w'.past d L n) → HasAccepted (w'.past L L n)
-  led_d L n a = grind (arith, nat_tests, accs, turn, upd_tells)
+  led_d L n a = grind (arith, turn)
 
   heard_d : (L y : ℕ) → (s.rows L).standing ≡ 2 → has s.heard y ≡ true →
       HasAccepted (w'.past y L (s.rows L).number)
@@ -191,7 +190,7 @@ module _ {N : ℕ} {w : History} {d : ℕ} (g : Safe N w) {s : State} (mv : RowM
 
       go : Held w d s L → HasAccepted (w'.past y L (s.rows L).number)
       go (old b m l f x) = accs y L _ (rw (← m) at (f y k))
-      go (new b c f x) = grind (arith, nat_tests, upd_tells)
+      go (new b c f x) = grind arith
 
   held_d : (L : ℕ) → (s.rows L).standing ≡ 2 → HoldsList d L s
   held_d L h = elim (held L h) [
@@ -219,10 +218,10 @@ module _ {N : ℕ} {w : History} {d : ℕ} (g : Safe N w) {s : State} (mv : RowM
   old_settled x L n y h k = accs y L n (g.settled x L n y h (rw (lists_kept L n (g.led x L n (omega arith))) at k))
 
   old_dropped : (x L n : ℕ) → w.past x L n ≡ 5 → (y : ℕ) × (on (w'.lists L n) y ≡ true) × (w'.past y L n ≡ 3)
-  old_dropped x L n h = grind (arith, nat_tests, upd_tells, at_on, grows, lists_kept)
+  old_dropped x L n h = grind (arith, grows, lists_kept)
 
   settled_d : (L n y : ℕ) → w'.past d L n ≡ 4 → on (w'.lists L n) y ≡ true → HasAccepted (w'.past y L n)
-  settled_d L n y h k = grind (arith, nat_tests, old_settled, turn, upd_tells)
+  settled_d L n y h k = grind (arith, old_settled, turn)
 
   dropped_d : (L n : ℕ) → w'.past d L n ≡ 5 → (y : ℕ) × (on (w'.lists L n) y ≡ true) × (w'.past y L n ≡ 3)
   dropped_d L n h = elim (turn L n) [
@@ -235,10 +234,10 @@ module _ {N : ℕ} {w : History} {d : ℕ} (g : Safe N w) {s : State} (mv : RowM
   ]
 
   old_letter : (m : Contents) → Among m w.sent → Backed w' m
-  old_letter m h = grind (arith, nat_tests, upd_tells, grows, lists_kept, vouches_on)
+  old_letter m h = grind (arith, grows, lists_kept)
 
   new_letter : (m : Contents) → Vouched d s (some m) → Backed w' m
-  new_letter m (e, f, t) = grind (arith, nat_tests, upd_tells)
+  new_letter m (e, f, t) = grind arith
 
   letters : (o' : Option Contents) → Vouched d s o' → (m : Contents) → Among m (posted o' w.sent) → Backed w' m
   letters none t m h = old_letter m h

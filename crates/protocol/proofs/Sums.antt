@@ -1,7 +1,6 @@
 -- Sums over the depots, and over a list's entries: a list's depots rise, so a sum over the list is one over the depots.
 use Rattle.std.proofs.Common.{◌≡◌, ℕ, zero, suc, ◌+◌, ◌<◌, ◌≤◌, true, cond, ◌||◌, eqb, List, [], ◌∷◌, length, sum, sym, refl, ap, ◌∙◌, ap₂, inl, inr, arith}
 use Rattle.std.specs.List.{AllByRecursion}
-use Rattle.std.proofs.lemmas.Bool.Decides.{nat_tests}
 use Rattle.std.proofs.lemmas.Bool.{cases_eq, or_cases, eq-eqb, ne_eqb, cond-true, cond-false}
 use Rattle.std.proofs.lemmas.List.Sums.{sum_by-cons}
 use Rattle.entries.specs.declared.lists.Entry.{Entry}
@@ -62,7 +61,7 @@ rising_on N b [] y r h = absurd (grind arith)
 rising_on N b (e ∷ ℓ) y r h =
     let (a, c, v) = r in
     elim (or_cases (eqb e.depot y) (on ℓ y) h) [
-      | inl q ↦ grind (arith, nat_tests)
+      | inl q ↦ grind arith
       | inr q ↦ (let z = rising_on N (e.depot + 1) ℓ y v q in omega arith)
     ]
 
@@ -73,12 +72,12 @@ sum_on N b [] f r = sum_none N _ (λ x _. refl)
 sum_on N b (e ∷ ℓ) f r =
     let (a, c, v) = r in
     let q = sum_on N (e.depot + 1) ℓ f v in
-    let p = sum_at N e.depot (λ x. cond (eqb x e.depot) (f x) 0) c (λ x n. grind (arith, nat_tests)) in
+    let p = sum_at N e.depot (λ x. cond (eqb x e.depot) (f x) 0) c (λ x n. grind arith) in
     let s = sum_both N (λ x. cond (eqb e.depot x || on ℓ x) (f x) 0) (λ x. cond (on ℓ x) (f x) 0) (λ _. 0)
     (λ x. cond (eqb x e.depot) (f x) 0)
-    (λ x _. (let z = rising_on N (e.depot + 1) ℓ x v in grind (arith, nat_tests))) in
+    (λ x _. (let z = rising_on N (e.depot + 1) ℓ x v in grind arith)) in
     let n = sum_none N (λ _. 0) (λ _ _. refl) in
-    let k : cond (eqb e.depot e.depot) (f e.depot) 0 ≡ f e.depot = grind (arith, nat_tests) in
+    let k : cond (eqb e.depot e.depot) (f e.depot) 0 ≡ f e.depot = grind arith in
     omega arith
 
 -- the shelves of a rising list, by its depots

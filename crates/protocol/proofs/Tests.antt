@@ -22,7 +22,7 @@ pub every_one : (ℓ : List Entry) (p : ℕ → Bool) (y : ℕ) → every ℓ p 
 unfolding every on
 every_one [] p y h k = cc
 every_one (e ∷ ℓ) p y h k = elim (or_cases (eqb e.depot y) (on ℓ y) k) [
-  | inl q ↦ grind (arith, upd_tells)
+  | inl q ↦ grind arith
   | inr q ↦ every_one ℓ p y (and_parts (p e.depot) (every ℓ p) h).1 q
 ]
 
@@ -68,4 +68,4 @@ not_every ℓ p q f h = false_from_ne_true _ (λ e. both_ways _ h (every_less �
 
 -- the other of two tests fails, where they do not both hold
 pub other_way : (b c : Bool) → b ≡ true → (b && c) ≡ false → c ≡ false
-other_way b c h e = grind (arith, upd_tells)
+other_way b c h e = grind arith
