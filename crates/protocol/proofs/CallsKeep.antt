@@ -161,7 +161,10 @@ module _ (P : Policy) (lawful : LawfulPolicy P) (a : Site) (s鈧� : State) (law鈧
         Go (by_kind c (s.rows L).standing sit)
     kind_kept kinds.Ask r alive =
         line Go here 0 (位 q _. absurd (alive q))
-        (line Go here 1 (位 q _. record { law = law; mails = offering a s s law law (mark L) L to_leader_lem (omega arith) })
+        (line Go here 1 (位 q _. record {
+          law = law;
+          mails = offering a s s law law (mark L) L to_leader_lem (omega arith);
+        })
         unlined_kept)
     kind_kept kinds.Offer r alive =
         line Go here 1 (位 q h. let (l, f) = and_parts _ _ h in gather_kept m.entries (eqb-true L _ l) q r f)

@@ -19,10 +19,6 @@ use Rattle.protocol.proofs.RowMoves.{move_of}
 use Rattle.protocol.proofs.SafeNext.{turn, now_d, engaged, lists_kept, list_d}
 use Rattle.protocol.proofs.History.{has_accepted, acc_true, true_acc}
 
-none_once : (c : Bool) → once (c && false) ≡ 0
-none_once true = refl
-none_once false = refl
-
 same_once : (b c : Bool) → once b ≡ once c → b ≡ c
 same_once true true e = refl
 same_once true false e = absurd (omega arith)
@@ -185,7 +181,8 @@ module _ {N : ℕ} {P : Policy} {w : History} {d : ℕ} {z : Type 0} {ℓ₀ : L
           ⊎ ((s.rows L).standing ≡ 4) →
           (ℓ₀ ∷ A x L n) ≡ list_if w'.lists L n (has_accepted (w'.past x L n))
       taken q e h f =
-          let k : HasAccepted (w'.past x L n) = rw (ap (λ y. w'.past y L n) q ∙ now_at L n e) (elim f [ inl v ↦ (omega arith) | inr v ↦ (omega arith) ]) in
+          let k : HasAccepted (w'.past x L n) = rw (ap (λ y. w'.past y L n) q ∙ now_at L n e)
+          (elim f [ inl v ↦ omega arith | inr v ↦ omega arith ]) in
           ap₂ (λ u v. u ∷ v) (tray_empty L h f ∙ ap (w'.lists L) (sym e)) (first q e h)
           ∙ sym (cond-true _ _ _ (true_acc _ k))
 

@@ -1,6 +1,6 @@
 -- The records tell what is due: while a depot is bound to a list, the row of its leader has the handover's number in
 -- the record of every depot on that list, so that the row's standing is the last one in the handover.
-use Rattle.std.proofs.Common.{◌≡◌, ℕ, ◌≤◌, Bool, true, false, ◌&&◌, ◌||◌, eqb, List, [], ◌∷◌, refl, ◌∙◌, ap₂, arith}
+use Rattle.std.proofs.Common.{◌≡◌, ℕ, ◌≤◌, Bool, true, ◌&&◌, ◌||◌, eqb, List, [], ◌∷◌, refl, ◌∙◌, ap₂, arith}
 use Rattle.std.proofs.lemmas.Bool.{eq-eqb, or_left, or_right}
 use Rattle.entries.specs.declared.lists.Entry.{Entry}
 use Rattle.entries.specs.Lists.{on}
@@ -23,11 +23,6 @@ every_same (e ∷ ℓ) p q f =
     ap₂ (λ b c. b && c) (f e.depot (or_left _ _ (eq-eqb e.depot e.depot refl)))
     (every_same ℓ p q (λ y k. f y (or_right _ _ k)))
 
--- the second test counts only where the first holds
-and_same : (b c d : Bool) → (b ≡ true → c ≡ d) → (b && c) ≡ (b && d)
-and_same true c d f = f refl
-and_same false c d f = refl
-
 -- a standing up to 5 says by its number whether a list was accepted
 accepted_standing : (k : ℕ) → k ≤ 5 → has_accepted k ≡ (eqb k 2 || (eqb k 4 || eqb k 5))
 unfolding has_accepted
@@ -41,9 +36,6 @@ module _ {P : Policy} (lawful : LawfulPolicy P) {o : Opening} (ok : LawfulOpenin
   module _ (x L : ℕ) (bound : ((w.at x).rows L).standing ≡ 2) where
     abbrev n : ℕ
     n = ((w.at x).rows L).number
-
-    bound_last : past_of s x L n ≡ 2
-    bound_last = (h.safe.own x).now L ∙ bound
 
     -- a depot on the list has accepted it exactly if its row says so
     row_tells : (y : ℕ) → on (w.at x).list y ≡ true → has_accepted (past_of s y L n) ≡ accepted_by_row w.at L n y

@@ -80,8 +80,8 @@ module _ {N : ℕ} {w : History} {d : ℕ} (d<N : d < N) (g : Safe N w) {P : Pol
           (record { number = number w d M; standing = k }) → HasAccepted k → standing w d M ≡ 1 →
           BindingList N d (w.at d).shelf ℓ → on ℓ d ≡ true → (entry_of ℓ d).shelf ≡ (w.at d).shelf →
           (M ≡ d) ⊎ (HasAccepted (p M M (number w d M)) × (ℓ ≡ w.lists M (number w d M))) → i ≡ 0 → j ≡ 0 →
-          (((y : ℕ) → on ℓ y ≡ true → HasAccepted (p' y M (number w d M))) → due_of N P p' s d ≡ (w.at d).tray + share_of
-          P.share ℓ d) → ((((y : ℕ) → on ℓ y ≡ true → HasAccepted (p' y M (number w d M))) → ⊥) → due_of N P p' s d
+          (((y : ℕ) → on ℓ y ≡ true → HasAccepted (p' y M (number w d M))) → due_of N P p' s d ≡
+          (w.at d).tray + share_of P.share ℓ d) → ((((y : ℕ) → on ℓ y ≡ true → HasAccepted (p' y M (number w d M))) → ⊥) → due_of N P p' s d
           ≡ (w.at d).tray + (w.at d).shelf) → DueMove i j
 
     at_point : (M m k : ℕ) → s.rows ≡ upd (w.at d).rows M (record { number = m; standing = k }) → p' d M m ≡ k
@@ -211,10 +211,6 @@ module _ {N : ℕ} {w : History} {d : ℕ} (d<N : d < N) (g : Safe N w) {P : Pol
       offered : p d M n ≡ 1
       offered = (g.own d).now M ∙ b
 
-      -- who has accepted it before d
-      led_by : (x : ℕ) → HasAccepted (p x M n) → ℓ ≡ w.lists M n
-      led_by x a = grind arith
-
       -- bound to it before d
       bound_list : (x : ℕ) → standing w x M ≡ 2 → number w x M ≡ n → (w.at x).list ≡ ℓ
       bound_list x a f = grind arith
@@ -300,5 +296,7 @@ module _ {N : ℕ} {w : History} {d : ℕ} (d<N : d < N) (g : Safe N w) {P : Pol
                 λ f. both_ways _ u (all_every ℓ (λ y. has_accepted (q y M (number w d M)))
                 (λ y v. true_acc _ (f y v))) in
                 let off : (x : ℕ) → standing w x M ≡ 2 → number w x M ≡ number w d M → Firm q (w.at x) → ⊥ =
-                λ x f m (L, g', h'). nope (λ y v. rw m at (rw (g.single x L M (omega arith) (omega arith)) at (h' y (ap (λ z. on z y) (bound_list M k ℓ e b me mine c x f m) ∙ v)))) in
-                by_one (λ x v. unmoved x v (stood M k ℓ e b me mine c x (off x))) (let x = due_no N P p (w.at d) d (loose M b) in omega arith)
+                λ x f m (L, g', h'). nope (λ y v. rw m at (rw (g.single x L M (omega arith) (omega arith)) at
+                (h' y (ap (λ z. on z y) (bound_list M k ℓ e b me mine c x f m) ∙ v)))) in
+                by_one (λ x v. unmoved x v (stood M k ℓ e b me mine c x (off x)))
+                (let x = due_no N P p (w.at d) d (loose M b) in omega arith)

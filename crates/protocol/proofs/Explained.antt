@@ -257,14 +257,16 @@ module _ {N : ℕ} (P : Policy) {w : History} {d : ℕ} (z : Type 0) (ℓ₀ : L
       struck_explained m t (λ x. absurd (not_struck m (rw k ask_ends_nothing) x))
       in
       let lt = ltb-true (number w d m.leader) m.number n in
-      rw k (rw (by_kind_lem kinds.Ask 0 sit) (by Go' (λ _. vouches_of kinds.Offer _ m.leader m.number 1 _ (turned m.leader m.number 1 s₂) refl
+      rw (k, by_kind_lem kinds.Ask 0 sit)
+      (by Go' (λ _. vouches_of kinds.Offer _ m.leader m.number 1 _ (turned m.leader m.number 1 s₂) refl
       (Effect.offer _ m.leader m.number st l (idle_of (other_way _ _ n free)) lt
       (rw y at q)) (omega arith, refl))
       (λ _. by Go' (λ e. absurd (false≢true e))
-      (λ _. unlined_explained s₂.owing st (strikes a m) m.leader m.sender m.number m.entries)))))
+      (λ _. unlined_explained s₂.owing st (strikes a m) m.leader m.sender m.number m.entries))))
       (λ n. let e : m.number ≡ number w d m.leader = (let u = ltb-false _ _ n in
       let v = ltb-false _ _ up in omega arith) in
-      rw (by_kind_lem (kind_of m.kind) _ sit) (kind_explained _ (struck_explained m t (λ _. e)) (strikes a m) m.leader m.sender m.number m.entries
+      rw (by_kind_lem (kind_of m.kind) _ sit)
+      (kind_explained _ (struck_explained m t (λ _. e)) (strikes a m) m.leader m.sender m.number m.entries
       (kind_of m.kind) e₀
       (λ z. let h = (law.rows.row m.leader).number_none z in omega arith)
       (lawful_right m ok) (rw e at t)))

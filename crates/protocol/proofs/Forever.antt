@@ -41,7 +41,8 @@ module _ {P : Policy} (lawful : LawfulPolicy P) {o : Opening} (ok : LawfulOpenin
     ]
 
   -- settled is settled, and the list is the same
-  settled_ever : {w u : Stage} (s : Series P o (just_opened o) w) (t : Series P o w u) (x L n : ℕ) → past_of s x L n ≡ 4 →
+  settled_ever : {w u : Stage} (s : Series P o (just_opened o) w) (t : Series P o w u) (x L n : ℕ) →
+      past_of s x L n ≡ 4 →
       (past_of (glue s t) x L n ≡ 4) × (lists_of (glue s t) L n ≡ lists_of s L n)
   settled_ever s start x L n e = (e, refl)
   settled_ever s (then t d c a) x L n e =

@@ -146,7 +146,8 @@ module _ {P : Policy} (lawful : LawfulPolicy P) {o : Opening} (ok : LawfulOpenin
           let h = invariant lawful ok (all s) in
           let q : r ≡ sends (take P (site P o y) (w.at y) m) =
           k ∙ (ap₂ (λ d c. sends (outcome P o w d c)) e f ∙ ap sends (read w y m m_lawful)) in
-          rw (q ∙ ap (λ u. sends (take P (site P o y) (w.at y) u)) m_is) (answer P x L n y h.safe h.leaders (before s d c a b) (listed s) x<N y≢x
+          rw (q ∙ ap (λ u. sends (take P (site P o y) (w.at y) u)) m_is)
+          (answer P x L n y h.safe h.leaders (before s d c a b) (listed s) x<N y≢x
           (others (site P o x) (v.at x).list) [] (on_others o.n P x (v.at x).list y on-y y≢x))
 
       reply_lawful : {w : Stage} (s : Series P o v₁ w) (r : Contents) → Arrives m y (some r) s → Lawful r

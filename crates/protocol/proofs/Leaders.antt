@@ -68,7 +68,8 @@ module _ {N : ℕ} {w : History} {d : ℕ} (d<N : d < N) (g : Safe N w)
             (λ _ y k. absurd (on_none y (sym (ap (λ u. on u y) h) ∙ k))) st
       ]
 
-  own_row_move : {P : Policy} {z : Type 0} {ℓ₀ : List Entry} {s : State} {i j : ℕ} → Effect N P w d z ℓ₀ s i j → OwnRowMove N w d s
+  own_row_move : {P : Policy} {z : Type 0} {ℓ₀ : List Entry} {s : State} {i j : ℕ} →
+      Effect N P w d z ℓ₀ s i j → OwnRowMove N w d s
   own_row_move (keep b st) = kept refl refl st
   own_row_move (issue n f u) = kept refl refl (λ y h. inl h)
   own_row_move (return n f) = kept refl refl (λ y h. inl h)

@@ -41,12 +41,6 @@ module _ {N : ℕ} {w : History} (g : Safe N w) (l : LeadersKnow N w) (x L n : �
   pub list_x : (w.at x).list ≡ w.lists L n
   list_x = g.list x L bound_x ∙ ap (w.lists L) at_n
 
-  up_to : (y m : ℕ) → 1 ≤ w.past y L m → m ≤ number w y L
-  up_to y m h = grind arith
-
-  leader_at_lem : number w L L ≡ n
-  leader_at_lem = grind arith
-
   pub pinned : (y : ℕ) → on (w.lists L n) y ≡ true → number w y L ≡ n
   pinned y h = grind arith
 
@@ -63,8 +57,8 @@ module _ {N : ℕ} {w : History} {d : ℕ} (g : Safe N w) (L : ℕ) (b : standin
       elim (upd_tells (w.at d).rows M (record { number = m; standing = k }) L)
       [ inl u ↦ (let v = f (cc) in omega arith) | inr u ↦ u.0 q ]
 
-  pub heard_on : {P : Policy} {z : Type 0} {ℓ₀ : List Entry} {s : State} {i j : ℕ} → (z → ⊥) → Effect N P w d z ℓ₀ s i j → (s.rows L).standing ≡ 2 → (y : ℕ) →
-      has (w.at d).heard y ≡ true → has s.heard y ≡ true
+  pub heard_on : {P : Policy} {z : Type 0} {ℓ₀ : List Entry} {s : State} {i j : ℕ} → (z → ⊥) →
+      Effect N P w d z ℓ₀ s i j → (s.rows L).standing ≡ 2 → (y : ℕ) → has (w.at d).heard y ≡ true → has s.heard y ≡ true
   heard_on never (Effect.keep b st) h y k = k
   heard_on never (Effect.issue n f u) h y k = k
   heard_on never (Effect.return n f) h y k = k
@@ -76,7 +70,8 @@ module _ {N : ℕ} {w : History} {d : ℕ} (g : Safe N w) (L : ℕ) (b : standin
   heard_on never (Effect.offer c M n st lt f u a) h y k = k
   heard_on never (Effect.gather c e st f a) h y k = k
   heard_on {s = s} never (Effect.propose e₀ e f u) h y k = absurd (ended_on s d _ 2 refl (omega arith) (λ _. e) h)
-  heard_on {s = s} never (Effect.accept c M ℓ e₀ st e a q f u) h y k = absurd (ended_on s M _ 2 refl (omega arith) (λ _. e) h)
+  heard_on {s = s} never (Effect.accept c M ℓ e₀ st e a q f u) h y k =
+      absurd (ended_on s M _ 2 refl (omega arith) (λ _. e) h)
   heard_on {s = s} never (Effect.join c M ℓ e₀ st e a q f u) h y k =
       absurd (ended_on s M _ 4 refl (omega arith) (omega arith) h)
   heard_on {s = s} never (Effect.refuse c M st e) h y k =

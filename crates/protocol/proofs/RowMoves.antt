@@ -28,14 +28,16 @@ module _ {N : ℕ} {w : History} {d : ℕ} (d<N : d < N) (g : Safe N w) where
   ends_in : (L k : ℕ) → Engages (standing w d L) → 3 ≤ k → {s : State} →
       s.rows ≡ upd (w.at d).rows L (record { number = number w d L; standing = k }) →
       StandingMove w d L (number w d L) (w.past d L (number w d L)) k → RowMove N w d s
-  ends_in L k a l e t = moves L (number w d L) k (omega arith) e (g.small d L (omega arith)) (omega arith) (one_at L a) t
+  ends_in L k a l e t =
+      moves L (number w d L) k (omega arith) e (g.small d L (omega arith)) (omega arith) (one_at L a) t
       (λ q. absurd (omega arith))
 
   -- itself and the leader have accepted what d is bound to
   pair_acc : (L : ℕ) → standing w d L ≡ 2 → (y : ℕ) → (y ≡ d) ⊎ (y ≡ L) → HasAccepted (w.past y L (number w d L))
   pair_acc L b y h = grind arith
 
-  pub move_of : {P : Policy} {z : Type 0} {ℓ₀ : List Entry} {s : State} {i j : ℕ} → Effect N P w d z ℓ₀ s i j → RowMove N w d s
+  pub move_of : {P : Policy} {z : Type 0} {ℓ₀ : List Entry} {s : State} {i j : ℕ} →
+      Effect N P w d z ℓ₀ s i j → RowMove N w d s
   move_of (keep b st) = as_it_was refl refl refl refl
   move_of (issue n f l) = grind arith
   move_of (return n f) = still refl (λ L e. absurd (f L (omega arith)))

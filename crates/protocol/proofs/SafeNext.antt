@@ -1,11 +1,7 @@
 -- A call keeps what holds of every history: a standing moves on only, in one of six ways, and what a letter vouches for
 -- stays so.
-use Rattle.std.proofs.Common.{◌≡◌, ℕ, ◌<◌, ◌≤◌, true, ◌⊎◌, List, sym, refl, ap, ◌∙◌, inl, inr, arith}
-use mathlib.Core.Path.{fun_ext}
+use Rattle.std.proofs.Common.{◌≡◌, ℕ, ◌<◌, ◌≤◌, true, ◌⊎◌, sym, refl, ap, ◌∙◌, inl, inr, arith}
 use mathlib.Core.Option.{Option, none, some}
-use Rattle.entries.specs.declared.lists.Entry.{Entry}
-use Rattle.letters.specs.declared.letter.Kind.{Kind}
-use Rattle.letters.specs.declared.letter.Kind.TheVariants as kinds
 use Rattle.letters.specs.Contents.{Contents}
 use Rattle.entries.specs.Sets.{has}
 use Rattle.entries.specs.Lists.{on}
@@ -14,7 +10,7 @@ use Rattle.protocol.specs.Series.{Among, posted}
 use Rattle.protocol.specs.State.{upd, State}
 use Rattle.protocol.proofs.Tests.{upd_tells}
 use Rattle.protocol.proofs.History.{History, next}
-use Rattle.protocol.proofs.History.{standing, number, StandingMove, HoldsList, RowMove, OwnPast, Safe, Vouches, Backed}
+use Rattle.protocol.proofs.History.{standing, number, StandingMove, HoldsList, RowMove, OwnPast, Safe, Backed}
 use Rattle.protocol.proofs.History.{Vouched}
 use Rattle.protocol.proofs.History.StandingMove.{same, opens, binds, refuses, settles, drops}
 use Rattle.protocol.proofs.History.RowMove.{still, moves}
@@ -44,22 +40,7 @@ turn_on w d L n k k' (opens a b j) = inr (inl (omega arith))
 turn_on w d L n k k' (binds a b j) = inr (inl (omega arith))
 turn_on w d L n k k' (refuses a b) = inr (inl (omega arith))
 turn_on w d L n k k' (settles a b i j _) = grind arith
-  where
-    two : (k : ℕ) → Engages k → (k ≡ 1) ⊎ (k ≡ 2)
-    two k e = grind arith
 turn_on w d L n k k' (drops a b j y i h) = inr (inr (omega arith))
-
-vouches_on : (c : Kind) (y L k k' : ℕ) (es : List Entry) (Q Q' : List Entry → Type 0) → Grows k k' →
-    (HasAccepted k → (ℓ : List Entry) → Q ℓ → Q' ℓ) → Vouches c y L k es Q → Vouches c y L k' es Q'
-vouches_on kinds.Ask y L k k' es Q Q' m f t = (t.0, omega arith)
-vouches_on kinds.Offer y L k k' es Q Q' m f t = (omega arith, t.1)
-vouches_on kinds.List y L k k' es Q Q' m f t = (t.0, acc_on k k' m t.1, f t.1 es t.2)
-vouches_on kinds.Yes y L k k' es Q Q' m f t = acc_on k k' m t
-vouches_on kinds.No y L k k' es Q Q' m f t = omega arith
-vouches_on kinds.Settle y L k k' es Q Q' m f t = omega arith
-vouches_on kinds.Drop y L k k' es Q Q' m f t = grind arith
-vouches_on kinds.Query y L k k' es Q Q' m f t = acc_on k k' m t
-vouches_on kinds.Done y L k k' es Q Q' m f t = omega arith
 
 -- what d is bound to after a call
 data Held (w : History) (d : ℕ) (s : State) (L : ℕ) : Type 0 where
@@ -91,9 +72,6 @@ module _ {N : ℕ} {w : History} {d : ℕ} (g : Safe N w) {s : State} (mv : RowM
           at_or : (L n : ℕ) → ((L ≡ M) × (n ≡ m) × (w'.past d L n ≡ k)) ⊎ (w'.past d L n ≡ w.past d L n)
           at_or L n = let q : s.rows L ≡ upd (w.at d).rows M (record { number = m; standing = k }) L =
               ap (λ u. u L) e in grind (arith, upd_tells)
-
-  pub else_past : (x : ℕ) → (x ≡ d → ⊥) → w'.past x ≡ w.past x
-  else_past x f = fun_ext (λ L. fun_ext (λ n. grind arith))
 
   -- a depot is d, or as it was
   pub case : (x : ℕ) (Q : ℕ → State → (ℕ → ℕ → ℕ) → Type 0) → Q d s (w'.past d) →
@@ -158,10 +136,6 @@ module _ {N : ℕ} {w : History} {d : ℕ} (g : Safe N w) {s : State} (mv : RowM
           n : (s.rows M).number ≡ m
           n = let r = ap (λ u. u M) e in grind (arith, upd_tells)
 
-          at_M : (w.past d M m ≡ 1) × ((M ≡ d) ⊎ (HasAccepted (w.past M M m) × (s.list ≡ w.lists M m)))
-              × ((y : ℕ) → has s.heard y ≡ true → (y ≡ d) ⊎ (y ≡ M)) × HoldsList d M s → Held w d s M
-          at_M (a, b, c, x) = new (rw n a) (rw n b) c x
-
   pub lists_kept : (L n : ℕ) → HasAccepted (w.past L L n) → w'.lists L n ≡ w.lists L n
   lists_kept L n a = grind (arith, held)
 
@@ -185,9 +159,6 @@ module _ {N : ℕ} {w : History} {d : ℕ} (g : Safe N w) {s : State} (mv : RowM
       HasAccepted (w'.past y L (s.rows L).number)
   heard_d L y h k = go (held L h)
     where
-      acc_d : HasAccepted (w'.past d L (s.rows L).number)
-      acc_d = acc_2 _ (now_d L ∙ h)
-
       go : Held w d s L → HasAccepted (w'.past y L (s.rows L).number)
       go (old b m l f x) = accs y L _ (rw (← m) at (f y k))
       go (new b c f x) = grind arith
