@@ -1,9 +1,10 @@
 -- Accepted, settled, dropped and due, as the calls of a series tell them, are what the last standings say. So depots
 -- agree, since one that has settled excludes one that refused, and pieces are conserved, by the dues of every call.
-use Rattle.std.proofs.Common.{◌≡◌, ℕ, ◌+◌, ◌≤◌, Bool, true, false, cond, ◌&&◌, ◌||◌, eqb, ◌⊎◌, List, [], ◌∷◌, sym, refl, ap, ◌∙◌, arith}
+use Rattle.std.proofs.Common.{◌≡◌, ℕ, ◌+◌, ◌≤◌, Bool, true, false, cond, ◌&&◌, ◌||◌, eqb, ◌⊎◌, List, [], ◌∷◌, sym, refl, ap, ◌∙◌, inl, inr, arith}
 use mathlib.Core.Path.{fun_ext}
-use Rattle.std.proofs.lemmas.Bool.{eq-eqb, ne_eqb, and_from, cond-true}
+use Rattle.std.proofs.lemmas.Bool.{eq-eqb, ne_eqb, and_from, cases_Bool, cond-true, cond-false}
 use Rattle.entries.specs.declared.lists.Entry.{Entry}
+use Rattle.policies.specs.Shares.{share_of}
 use Rattle.protocol.specs.Calls.{Call, Hand, once, accepts, ends_at}
 use Rattle.protocol.specs.Law.{HasAccepted}
 use Rattle.protocol.specs.Listing.{every, same}
@@ -169,7 +170,16 @@ module _ {P : Policy} (lawful : LawfulPolicy P) {o : Opening} where
 
     due_is : (x : ℕ) → due P o w x ≡ dueBy o.n P (history s) x
     unfolding due due_of pick
-    due_is x = grind (arith, due_no, firm_is, h, zero_more)
+    due_is x = elim (cases_Bool (w.handed x)) [
+      | inl e ↦ cond-true _ _ _ e ∙ ap
+          (λ b. (w.at x).tray + cond b (share_of P.share (w.at x).list x) (w.at x).shelf) (firm_is x)
+      | inr e ↦ cond-false _ _ _ e ∙ sym (loose e)
+    ]
+      where
+        loose : w.handed x ≡ false → dueBy o.n P (history s) x ≡ o.shares x
+        loose e = let q = h.unhanded x e in
+            ap (λ u. due_of o.n P (past_of s) u x) q
+            ∙ (due_no o.n P (past_of s) (fresh (o.shares x)) x (λ (L, a, _). omega arith) ∙ zero_more (o.shares x))
 
     pub conservation : Conservation P o w
     conservation = let e = sum_same o.n (due P o w) (dueBy o.n P (history s)) (λ x _. due_is x) in

@@ -1,6 +1,6 @@
 -- The records tell what is due: while a depot is bound to a list, the row of its leader has the handover's number in
 -- the record of every depot on that list, so that the row's standing is the last one in the handover.
-use Rattle.std.proofs.Common.{◌≡◌, ℕ, ◌≤◌, Bool, true, ◌&&◌, ◌||◌, eqb, List, [], ◌∷◌, refl, ◌∙◌, ap₂, arith}
+use Rattle.std.proofs.Common.{◌≡◌, ℕ, ◌≤◌, Bool, true, ◌&&◌, ◌||◌, eqb, List, [], ◌∷◌, sym, refl, ap, ◌∙◌, ap₂, arith}
 use Rattle.std.proofs.lemmas.Bool.{eq-eqb, or_left, or_right}
 use Rattle.entries.specs.declared.lists.Entry.{Entry}
 use Rattle.entries.specs.Lists.{on}
@@ -40,7 +40,24 @@ module _ {P : Policy} (lawful : LawfulPolicy P) {o : Opening} (ok : LawfulOpenin
     -- a depot on the list has accepted it exactly if its row says so
     row_tells : (y : ℕ) → on (w.at x).list y ≡ true → has_accepted (past_of s y L n) ≡ accepted_by_row w.at L n y
     unfolding accepted_by_row
-    row_tells y listed = grind (arith, accepted_standing, h, list_x, pinned)
+    row_tells y listed =
+        ap has_accepted last
+        ∙ (accepted_standing k (rw (← last) (h.safe.most y L n))
+        ∙ sym (ap (λ b. b && (eqb k 2 || (eqb k 4 || eqb k 5))) (eq-eqb _ n at_n)))
+      where
+        k : ℕ
+        k = ((w.at y).rows L).standing
+
+        bound_last : past_of s x L n ≡ 2
+        bound_last = (h.safe.own x).now L ∙ bound
+
+        at_n : ((w.at y).rows L).number ≡ n
+        at_n =
+            pinned h.safe h.leaders x L n bound_last y
+            (ap (λ ℓ. on ℓ y) (sym (list_x h.safe h.leaders x L n bound_last)) ∙ listed)
+
+        last : past_of s y L n ≡ k
+        last = ap (past_of s y L) (sym at_n) ∙ (h.safe.own y).now L
 
     stands_by_rows_lem : stands w L n (w.at x).list ≡ stands_by_rows w.at L n (w.at x).list
     unfolding stands_by_rows
