@@ -5,7 +5,6 @@ ghost use Rattle.worked_examples.specs.All.{AllExamples};
 
 /// The worked examples, each from the definitions that the contracts of the book cite. The call does nothing; its
 /// contract is the statement.
-#[tactic(auto, using(protocol::proofs::WorkedSeries::worked), unfolding(entries::specs::Limits::max_depots, policies::specs::Shares::level, policies::specs::Shares::wishes_first))]
 pub fn all_hold()
     ensures { AllExamples }
 {}
