@@ -4,6 +4,7 @@ use entries::{
 };
 use std::test::Fail;
 
+// Written out, each entry below would take five lines.
 fn entry(depot: u8, shelf: u32, wish: u32) -> Entry {
     Entry { depot, shelf, wish }
 }

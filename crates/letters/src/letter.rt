@@ -50,6 +50,7 @@ impl TryFrom<u8> for Kind {
 
 impl Kind {
     /// The kind's number in bytes.
+    // no `From<Kind> for u8`: `kind.number()` names what `u8::from(kind)` would not
     pub fn number(self) -> u8
         ensures { result ≡ kind_number self }
     {
