@@ -70,6 +70,7 @@ fn expected(n: usize) -> &'static str
     }
 }
 
+// Two impls for want of memory: `?` meets either of the library's two errors of it, and an impl is for one type.
 impl From<AllocError> for Fault {
     ghost from_gives = { λ _ r. r ≡ Memory };
 
