@@ -25,7 +25,8 @@ module _ (s : Unchecked) where
 
   abbrev each : List Test
   each =
-      entries_tests (length s.entries.now / entry_len) (owner_of (kind_number s.kind) s.head.sender) head_len s.entries.now
+      entries_tests (length s.entries.now / entry_len) (owner_of (kind_number s.kind) s.head.sender) head_len
+      s.entries.now
 
   abbrev order : List Test
   order = rises_tests 0 head_len (entries_in s.entries.now)
@@ -49,8 +50,8 @@ pub marked_reads : (bs : List ℕ) (to number : ℕ) (a : Answer) → head_len �
     number_in mark_len bs 0 ≡ letter_mark → to ≡ number_in to_len bs format.to_at →
     number ≡ number_in number_len bs format.number_at →
     a ≡ answer
-    (first_failed (body_tests (at bs format.kind_at) (at bs format.sender_at) (at bs format.leader_at) (at bs format.code_at)
-    number (take (length bs - head_len) (drop head_len bs))))
+    (first_failed (body_tests (at bs format.kind_at) (at bs format.sender_at) (at bs format.leader_at)
+    (at bs format.code_at) number (take (length bs - head_len) (drop head_len bs))))
     (record {
       kind = at bs format.kind_at;
       sender = at bs format.sender_at;

@@ -18,7 +18,8 @@ use Rattle.letters.proofs.Tests.{Passes, Passed, passed_none}
 use Rattle.letters.proofs.Carried.{Fits, carries_fits}
 
 -- one entry
-wish_back : (e : Entry) (rest : List ℕ) → LawfulEntry e → number_in wish_len (entry_bytes e rest) format.wish_at ≡ e.wish
+wish_back : (e : Entry) (rest : List ℕ) → LawfulEntry e →
+    number_in wish_len (entry_bytes e rest) format.wish_at ≡ e.wish
 wish_back e rest h =
     number_back wish_len e.wish format.wish_at (entry_bytes e rest) _ refl (omega (arith, h.wish_within))
 

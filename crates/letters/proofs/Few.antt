@@ -28,8 +28,8 @@ module _ (kind n : ℕ) (h : length_fits kind n ≡ true) where
 pub all_placed : (kind : ℕ) (bs : List ℕ) → length_fits kind (length bs) ≡ true →
     take max_depots (entries_in bs) ≡ entries_in bs
 all_placed k bs h =
-    take_all max_depots (entries_in bs)
-    (omega (arith, count_entries (length bs / entry_len) bs, count_few k (length bs / entry_len) (count k (length bs) h)))
+    let n = length bs / entry_len in
+    take_all max_depots (entries_in bs) (omega (arith, count_entries n bs, count_few k n (count k (length bs) h)))
 
 -- only an Offer and a List have bytes after the head
 pub no_entries : (kind : ℕ) (bs : List ℕ) → length_fits kind (length bs) ≡ true → (kind ≡ offer_kind → ⊥) →

@@ -15,7 +15,8 @@ use Rattle.letters.specs.Reading.{one_entry_tests, entries_tests, rises_tests}
 use Rattle.letters.specs.Code.{placed, Gave}
 use Rattle.letters.proofs.Tests.{failed_join}
 
-count_more : (bs : List ℕ) → entry_len ≤ length bs → length bs / entry_len ≡ suc (length (drop entry_len bs) / entry_len)
+count_more : (bs : List ℕ) → entry_len ≤ length bs →
+    length bs / entry_len ≡ suc (length (drop entry_len bs) / entry_len)
 count_more bs h = omega (arith, length-drop entry_len bs)
 
 entries_more : (bs : List ℕ) → entry_len ≤ length bs → entries_in bs ≡ entry_in bs ∷ entries_in (drop entry_len bs)

@@ -31,7 +31,8 @@ impl<'a> Unchecked<'a> {
     // Checks the head's values, from left to right.
     fn check_head(&self) -> Result<(), Unread>
         ensures { refusal_of result
-            ≡ first_failed (head_tests self.now.head.sender self.now.head.leader self.now.head.code self.now.head.number) }
+            ≡ first_failed
+            (head_tests self.now.head.sender self.now.head.leader self.now.head.code self.now.head.number) }
     {
         if !is_depot(self.head.sender) {
             return refuse(Unreadable::Range, SENDER_AT);
@@ -52,8 +53,8 @@ impl<'a> Unchecked<'a> {
     fn check_entries(&self) -> Result<(), Unread>
         ensures { refusal_of result
             ≡ first_failed
-            (entries_tests (length self.now.entries.now / entry_len) (owner_of (kind_number self.now.kind) self.now.head.sender)
-            head_len self.now.entries.now) }
+            (entries_tests (length self.now.entries.now / entry_len)
+            (owner_of (kind_number self.now.kind) self.now.head.sender) head_len self.now.entries.now) }
     {
         let owner = self.owner();
         for (index, entry) in self.entries.chunks(ENTRY_LEN).enumerate() {

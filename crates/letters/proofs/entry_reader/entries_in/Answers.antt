@@ -11,10 +11,15 @@ loop-entry-init c = grind (arith, common_steps)
 
 pub loop-entry-preserved : goal.loop-entry-preserved
 loop-entry-preserved c =
+    let so_far = c.loop-entry.entries in
     let was = take_source c.loop-entry.entry-iterator in
     let is = take_source c.next.new.self in
     let s = c.in-Some.ensures.steps in
     let more = rest_gave was is c.in-Some.field-0-0 c.in-Some.entry s.0.0 in
     let e = c.push.ensures in
-    let a = append_assoc c.loop-entry.entries (c.in-Some.entry ∷ []) (rest is) in
-    (tt, tt, simp (e, length-append) (omega (arith, s.1)), rw e (a ∙ ap (λ es. c.loop-entry.entries ++ es) (sym more) ∙ c.loop-entry.invariant.3))
+    let a = append_assoc so_far (c.in-Some.entry ∷ []) (rest is) in (
+      tt,
+      tt,
+      simp (e, length-append) (omega (arith, s.1)),
+      rw e (a ∙ ap (λ es. so_far ++ es) (sym more) ∙ c.loop-entry.invariant.3),
+    )

@@ -9,15 +9,16 @@ returns-in_err-check_entries c =
     let p = err_from_is_err_and c.from_residual-in_err-check_entries.result
     c.from_residual-in_err-check_entries.ensures.1 in
     rw (p.1, p.2)
-    (values_failed c.args.self.now None (Some (unread_of c.in_err-check_entries.field-0.0)) _ _ c.in_ok-check_head.ensures
-    c.in_err-check_entries.ensures refl refl)
+    (values_failed c.args.self.now None (Some (unread_of c.in_err-check_entries.field-0.0)) _ _
+    c.in_ok-check_head.ensures c.in_err-check_entries.ensures refl refl)
 
 pub returns-in_err-check_order : goal.returns-in_err-check_order
 returns-in_err-check_order c =
-    let p = err_from_is_err_and c.from_residual-in_err-check_order.result c.from_residual-in_err-check_order.ensures.1 in
+    let p = err_from_is_err_and c.from_residual-in_err-check_order.result
+    c.from_residual-in_err-check_order.ensures.1 in
     rw (p.1, p.2)
-    (values_failed c.args.self.now None None (Some (unread_of c.in_err-check_order.field-0.0)) _ c.in_ok-check_head.ensures
-    c.in_ok-check_entries.ensures c.in_err-check_order.ensures refl)
+    (values_failed c.args.self.now None None (Some (unread_of c.in_err-check_order.field-0.0)) _
+    c.in_ok-check_head.ensures c.in_ok-check_entries.ensures c.in_err-check_order.ensures refl)
 
 pub returns : goal.returns
 returns c =

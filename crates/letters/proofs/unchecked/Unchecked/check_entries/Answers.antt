@@ -46,4 +46,5 @@ returns-in_err-check_entry c =
     let r = Some (unread_of c.in_err-check_entry.field-0.0) in
     let refused : r ≡ first_failed (one_entry_tests owner place chunk.now) = rw s.1 at c.in_err-check_entry.ensures in
     let p = err_from_is_err_and c.from_residual.result c.from_residual.ensures.1 in
-    rw (p.1, p.2) (entry_turn owner place was (enumerate_source c.next.new.self) chunk s.0 inv.2 inv.3 r refused ∙ inv.5)
+    rw (p.1, p.2)
+    (entry_turn owner place was (enumerate_source c.next.new.self) chunk s.0 inv.2 inv.3 r refused ∙ inv.5)
