@@ -32,10 +32,16 @@ pub wishes_first_at : (es : List Entry) (place : ℕ) → get_or (wishes_first e
 unfolding wishes_first
 wishes_first_at es place = added_at (grants (pool es) es) (dealt_out (rest (pool es) es) (length es)) place (same_length es)
 
--- the two parts of a share together keep within the limit of the pool
+-- no share passes the pool
 pub wishes_within : (es : List Entry) (place : ℕ) → Listed es → place < length es
-    → get_or (grants (pool es) es) place 0 + get_or (dealt_out (rest (pool es) es) (length es)) place 0 ≤ max_pool
+    → get_or (wishes_first es) place 0 ≤ pool es
 wishes_within es place listed within =
     let here : place < length (wishes_first es) = omega (arith, wishes_size es listed) in
     let most = get_or-le-sum_by (λ n. n) (wishes_first es) place 0 here in
-    omega (arith, wishes_first_at es place, most, wishes_conserves es listed, listed.sum_within)
+    omega (arith, most, wishes_conserves es listed)
+
+-- nor do its two parts together pass the limit of a pool
+pub parts_within : (es : List Entry) (place : ℕ) → Listed es → place < length es
+    → get_or (grants (pool es) es) place 0 + get_or (dealt_out (rest (pool es) es) (length es)) place 0 ≤ max_pool
+parts_within es place listed within =
+    omega (arith, wishes_first_at es place, wishes_within es place listed within, listed.sum_within)

@@ -52,7 +52,7 @@ impl Policy for WishesFirst {
 
     ghost conserves = { wishes_conserves };
 
-    #[tactic(auto, using(crate::proofs::SharesAt::wishes_first_at, crate::proofs::SharesAt::wishes_within))]
+    #[tactic(auto, using(crate::proofs::SharesAt::wishes_first_at, crate::proofs::SharesAt::parts_within))]
     fn share_at(list: &[Entry], place: usize) -> u32 {
         let (mine, left) = granted_at(list, place, pieces_of(list));
         mine + dealt_at(left, list.len(), place)
