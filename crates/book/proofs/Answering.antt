@@ -7,10 +7,9 @@ use Rattle.letters.specs.Reading as reading
 use Rattle.protocol.specs.State.{Site, State}
 use Rattle.protocol.specs.Outcome.{Outcome, refuses, serves, after}
 use Rattle.protocol.specs.declared.refusal.Refusal.{Refusal}
-use Rattle.book.specs.declared.parts.Sent.{Sent}
 use Rattle.book.specs.declared.record.Record.{Record}
 use Rattle.book.specs.View.{site, view}
-use Rattle.book.specs.Calls.{told, at, Left, Posted, Replied, Answered, Moved, Called}
+use Rattle.book.specs.Calls.{told, at, Left, Posted, Replied, Answered, Moved, Called, Sent}
 
 -- a record that a call leaves as it was, and one that has the outcome's state
 pub left_refused : {o : Outcome} (r : Record) {k : reading.Refusal} → o ≡ refuses k → Left o r r

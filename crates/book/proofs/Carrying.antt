@@ -1,16 +1,39 @@
--- The entries that a letter carries: those of an Offer and of a List, which a place has room for, and none otherwise.
-use Rattle.std.proofs.Common.{◌≡◌, ℕ, ◌≤◌, true, List, [], length, take, refl, arith}
+-- What a lawful letter carries: its leader and sender are depots, and so are those of its entries, which a place has
+-- room for. A letter that is neither an Offer nor a List carries none.
+use Rattle.std.proofs.Common.{◌≡◌, ℕ, ◌<◌, ◌≤◌, true, List, [], ◌∷◌, length, take, refl, arith}
+use mathlib.Core.Logic.{∥∥₁_elim, ∥∥₁_map}
+use native.Mathlib.Bridge.{le_prop}
+use Rattle.std.specs.List.{AllByRecursion}
 use Rattle.std.proofs.lemmas.Bool.Decides.{nat_tests}
 use Rattle.std.proofs.lemmas.List.{take_all}
 use denote.Bor.{Bor}
+use Rattle.entries.specs.declared.lists.Entry.{Entry}
 use Rattle.entries.specs.Limits.{max_depots}
+use Rattle.entries.proofs.Known.{depots_known}
 use Rattle.letters.specs.declared.letter.Head.{Head}
 use Rattle.letters.specs.declared.letter.Letter.{Letter}
 use Rattle.letters.specs.declared.letter.Letter.TheVariants as letters
-use Rattle.letters.specs.Contents.{Lawful}
+use Rattle.letters.specs.declared.message.Message.{Message}
+use Rattle.letters.specs.Contents.{LawfulEntry, Lawful}
 use Rattle.letters.specs.Reading.{count_fits, entries_in}
-use Rattle.letters.specs.Code.{letter_says, entry_part}
+use Rattle.letters.specs.Code.{kind_number, letter_says, entry_part}
 use Rattle.letters.proofs.Carried.{carries_fits}
+
+-- a message is always lawful
+pub leader_low : (m : Message) → m.head.leader < max_depots
+leader_low m = ∥∥₁_elim m.lawful le_prop (λ l. l.leader_below)
+
+pub sender_low : (m : Message) → m.head.sender < max_depots
+sender_low m = ∥∥₁_elim m.lawful le_prop (λ l. l.sender_below)
+
+all_low : (es : List Entry) → AllByRecursion LawfulEntry es → AllByRecursion (λ e. e.depot < max_depots) es
+all_low [] all = tt
+all_low (e ∷ es) all = (all.0.depot_below, all_low es all.1)
+
+pub entries_low : (m : Message) → AllByRecursion (λ e. e.depot < max_depots) m.entries
+entries_low m =
+    depots_known max_depots m.entries
+    (∥∥₁_map m.lawful (λ l. all_low m.entries (carries_fits (kind_number m.kind) m.head.sender m.entries l.carries).each))
 
 -- so many entries fit into a place
 count_room : (kind n : ℕ) → count_fits kind n ≡ true → n ≤ max_depots

@@ -1,5 +1,5 @@
 -- A set that covers the depots on a list has each of them.
-use Rattle.std.proofs.Common.{◌≡◌, ℕ, Bool, ltb, List, Decides, sym, ap, ◌∙◌, ap₂}
+use Rattle.std.proofs.Common.{◌≡◌, ℕ, ltb, List, Decides, sym, ap, ◌∙◌}
 use mathlib.Core.Path.{fun_ext}
 use Rattle.std.proofs.lemmas.Bool.Decides.{same_from_decides}
 use Rattle.entries.specs.declared.lists.Entry.{Entry}
@@ -20,11 +20,6 @@ each_within set es = (
 pub covers_every : (set : ℕ) (es : List Entry) → covers set (names es) ≡ every es (has set)
 covers_every set es = same_from_decides _ _ (covers_within set (names es)) (each_within set es)
 
--- the test as the code makes it, with the sets that it made
-pub covers_now : (set : ℕ) (es : List Entry) {now named : ℕ} {b : Bool} → b ≡ covers now named → now ≡ set
-    → named ≡ names es → every es (has set) ≡ b
-covers_now set es q e f = sym (q ∙ ap₂ covers e f ∙ covers_every set es)
-
 -- all of them are depots of a set
-pub everyone_every : (n : ℕ) (es : List Entry) → covers (everyone n) (names es) ≡ every es (λ x. ltb x n)
-everyone_every n es = covers_every (everyone n) es ∙ ap (every es) (fun_ext (has_everyone n))
+pub everyone_every : (n : ℕ) (es : List Entry) → every es (has (everyone n)) ≡ every es (λ x. ltb x n)
+everyone_every n es = ap (every es) (fun_ext (has_everyone n))

@@ -12,6 +12,7 @@ use Rattle.letters.specs.declared.message.Message.{Message}
 use Rattle.letters.specs.Contents.{Contents, Lawful}
 use Rattle.letters.specs.Reading.{Refusal as Refused}
 use Rattle.letters.specs.Code.{kind_number, says}
+use Rattle.letters.specs.Writing.{message_says}
 use Rattle.letters.proofs.Carried.{lawful_listed}
 use Rattle.protocol.specs.declared.refusal.Refusal.{Refusal}
 use Rattle.protocol.specs.declared.step.Whom.{Whom}
@@ -30,10 +31,9 @@ use Rattle.protocol.proofs.Tests.{by}
 use Rattle.protocol.proofs.ByKind.{tells_how, by_kind, by_kind_lem}
 use Rattle.protocol.proofs.LawfulLists.{kind_back}
 use Rattle.protocol.proofs.LawKept.{law_kept}
-use Rattle.book.specs.declared.parts.Sent.{Sent}
 use Rattle.book.specs.declared.record.Record.{Record}
 use Rattle.book.specs.View.{site, view}
-use Rattle.book.specs.Calls.{told, at, stepped, lined, Sound, StepGrounds, Answered, Called}
+use Rattle.book.specs.Calls.{told, at, stepped, lined, Sound, StepGrounds, Answered, Called, Sent}
 
 -- another step than Accept
 abbrev Other : Step → Type 0
@@ -87,50 +87,54 @@ module _ (u u' : State) where
   strike_after false t e f = f refl
 
 -- any step
-after_same : (P : Policy) (b : Bool) (h : Head) (es : List Entry) (a : Site) (s : State) (x : Step) (u u' : State)
-    → (b ≡ false → u ≡ u') → after u (stepped P b h es x a s) ≡ after u' (stepped P b h es x a s)
+after_same : (P : Policy) (b : Bool) (m : Contents) (a : Site) (s : State) (x : Step) (u u' : State)
+    → (b ≡ false → u ≡ u') → after u (stepped P b m x a s) ≡ after u' (stepped P b m x a s)
 unfolding concluded
-after_same P b h es a s steps.Unlined u u' f = strike_after u u' b s _ f
-after_same P b h es a s steps.Stay u u' f = refl
-after_same P b h es a s steps.Join u u' f = refl
-after_same P b h es a s steps.OfferAgain u u' f = refl
-after_same P b h es a s steps.Gather u u' f = refl
-after_same P b h es a s steps.Accept u u' f = one_after u u' _ _ _ _ _
-after_same P b h es a s steps.Hear u u' f = one_after u u' _ _ _ _ _
-after_same P b h es a s (steps.Say k v) u u' f = refl
-after_same P b h es a s (steps.Refuse v) u u' f = refl
-after_same P b h es a s (steps.Settle k v) u u' f = refl
-after_same P b h es a s (steps.Drop k v) u u' f = refl
+after_same P b m a s steps.Unlined u u' f = strike_after u u' b s _ f
+after_same P b m a s steps.Stay u u' f = refl
+after_same P b m a s steps.Join u u' f = refl
+after_same P b m a s steps.OfferAgain u u' f = refl
+after_same P b m a s steps.Gather u u' f = refl
+after_same P b m a s steps.Accept u u' f = one_after u u' _ _ _ _ _
+after_same P b m a s steps.Hear u u' f = one_after u u' _ _ _ _ _
+after_same P b m a s (steps.Say k v) u u' f = refl
+after_same P b m a s (steps.Refuse v) u u' f = refl
+after_same P b m a s (steps.Settle k v) u u' f = refl
+after_same P b m a s (steps.Drop k v) u u' f = refl
 
--- a letter of a kind with a head and entries, at a record
-module _ (k : Kind) (h : Head) (es : List Entry) where
-  -- the letter
+-- a letter at a record
+module _ (letter : Message) where
+  -- what it says
   abbrev m : Contents
-  m = says (kind_number k) h es
+  m = message_says letter
 
-  -- its leader
-  abbrev L : ℕ
-  L = h.leader
+  -- its kind
+  abbrev k : Kind
+  k = letter.kind
+
+  -- whether a record's guards see this of it
+  abbrev Seen : Site → State → Situation → Type 0
+  Seen a t about = about ≡ situation a t m.leader m.sender m.number m.entries
 
   -- whether it strikes its sender, as the code tests it
-  pub strikes_is : (a : Site) {t b : Bool} → t ≡ tells_end k → b ≡ (t && eqb h.leader a.depot) → b ≡ strikes a m
+  pub strikes_is : (a : Site) {t b : Bool} → t ≡ tells_end k → b ≡ (t && eqb m.leader a.depot) → b ≡ strikes a m
   unfolding strikes
   strikes_is a {t} {b} e f =
       let q : tells_end (kind_of (kind_number k)) ≡ tells_end k = ap tells_end (kind_back k) in
-      f ∙ ap (λ x. x && eqb h.leader a.depot) (e ∙ sym q)
+      f ∙ ap (λ x. x && eqb m.leader a.depot) (e ∙ sym q)
 
   -- the step that it calls for, as the code decides it
   pub step_now : (a : Site) (t : State) {n : ℕ} {about : Situation} {x : Step} → x ≡ decided k n about
-      → n ≡ standing_in t m → about ≡ situation a t L h.sender h.number es → x ≡ step_for a t m
+      → n ≡ standing_in t m → Seen a t about → x ≡ step_for a t m
   unfolding step_for
   step_now a t e f g =
       e ∙ ap₂ (decided k) f g
-      ∙ ap (λ c. decided c (standing_in t m) (situation a t L h.sender h.number es)) (sym (kind_back k))
+      ∙ ap (λ c. decided c (standing_in t m) (situation a t m.leader m.sender m.number m.entries)) (sym (kind_back k))
 
   -- what the step may rely on
-  pub grounds_now : (a : Site) (t : State) {n : ℕ} {about : Situation} (x : Step) → Lawful m → x ≡ decided k n about
-      → Grounds x n about → n ≡ standing_in t m → about ≡ situation a t L h.sender h.number es
-      → StepGrounds es t L x
+  pub grounds_now : (a : Site) (t : State) {n : ℕ} {about : Situation} (x : Step) → ∥ Lawful m ∥₁ → x ≡ decided k n about
+      → Grounds x n about → n ≡ standing_in t m → Seen a t about
+      → StepGrounds m t x
   grounds_now a t steps.Unlined law e g f i = tt
   grounds_now a t steps.Stay law e g f i = tt
   grounds_now a t steps.Join law e g f i = tt
@@ -138,7 +142,7 @@ module _ (k : Kind) (h : Head) (es : List Entry) where
   grounds_now a t steps.Gather law e g f i = sym (ap (λ o. o.gatherable) i) ∙ g
   grounds_now a t {n} {about} steps.Accept law e g f i =
       let q = accepts_list k n about (sym (e ∙ by_kind_lem k n about)) in
-      ∣ lawful_listed m law (ap kind_number q) ∣₁
+      ∥∥₁_map law (λ l. lawful_listed m l (ap kind_number q))
   grounds_now a t steps.Hear law e g f i = past_new _ _ 2 (omega arith) (sym f ∙ g)
   grounds_now a t (steps.Say c v) law e g f i = tt
   grounds_now a t (steps.Refuse v) law e g f i = past_new _ _ 1 (omega arith) (sym f ∙ g)
@@ -146,19 +150,19 @@ module _ (k : Kind) (h : Head) (es : List Entry) where
   grounds_now a t (steps.Drop c v) law e g f i = past_new _ _ 2 (omega arith) (sym f ∙ g)
 
   module _ (P : Policy) (r r' : Record) {b : Bool} {x : Step} (same : site r' ≡ site r) (e : b ≡ strikes (site r) m)
-      (now : view r' ≡ owed (pick b (less (view r).owing (mark h.sender)) (view r).owing) (view r))
+      (now : view r' ≡ owed (pick b (less (view r).owing (mark m.sender)) (view r).owing) (view r))
       (f : x ≡ step_for (site r') (view r') m) where
     -- the record is the one that the letter leaves with its sender struck
     struck_now : view r' ≡ struck (site r) (view r) m
-    struck_now = now ∙ ap (λ z. owed (pick z (less (view r).owing (mark h.sender)) (view r).owing) (view r)) e
+    struck_now = now ∙ ap (λ z. owed (pick z (less (view r).owing (mark m.sender)) (view r).owing) (view r)) e
 
     -- the step at the record with the sender struck comes to what the line comes to
-    line_is : at (stepped P b h es x) r' ≡ at (lined P m) r
+    line_is : at (stepped P b m x) r' ≡ at (lined P m) r
     line_is =
-        ap (λ z. stepped P b h es z (site r') (view r')) f
-        ∙ ap (λ z. stepped P b h es (step_for z (view r') m) z (view r')) same
-        ∙ ap (λ z. stepped P b h es (step_for (site r) z m) (site r) z) struck_now
-        ∙ ap (λ z. stepped P z h es (step_for (site r) (struck (site r) (view r) m) m) (site r)
+        ap (λ z. stepped P b m z (site r') (view r')) f
+        ∙ ap (λ z. stepped P b m (step_for z (view r') m) z (view r')) same
+        ∙ ap (λ z. stepped P b m (step_for (site r) z m) (site r) z) struck_now
+        ∙ ap (λ z. stepped P z m (step_for (site r) (struck (site r) (view r) m) m) (site r)
         (struck (site r) (view r) m)) e
 
     -- a letter that does not strike leaves the record as it was
@@ -167,7 +171,7 @@ module _ (k : Kind) (h : Head) (es : List Entry) where
     unstruck q = now ∙ rw q refl
 
     -- carrying it out keeps the law and sends what can be read, since the line does
-    pub sound_now : Sound (lined P m) r → Sound (stepped P b h es x) r'
+    pub sound_now : Sound (lined P m) r → Sound (stepped P b m x) r'
     sound_now ok =
         subst (λ o. ∥ Keeps (site r') (view r') o ∥₁) (sym line_is)
         (subst (λ z. ∥ Keeps z (view r') (at (lined P m) r) ∥₁) (sym same)
@@ -176,14 +180,14 @@ module _ (k : Kind) (h : Head) (es : List Entry) where
 
     -- and answers and leaves what the line does
     pub called_now : {res : Result Sent Refusal} {t : Record} {lent left : Message}
-        → Called (stepped P b h es x) res r' t lent left → Called (lined P m) res r t lent left
+        → Called (stepped P b m x) res r' t lent left → Called (lined P m) res r t lent left
     called_now {res} {t} {lent} {left} c =
         record {
           answer = subst (λ o. Answered told o res lent left) line_is c.answer;
           leaves = record {
             state =
                 c.leaves.state
-                ∙ after_same P b h es (site r') (view r') x (view r') (view r) unstruck
+                ∙ after_same P b m (site r') (view r') x (view r') (view r) unstruck
                 ∙ ap (after (view r)) line_is;
             same = c.leaves.same ∙ same;
           };

@@ -1,22 +1,19 @@
 -- Gathering an entry: insertion takes it, since its depot is not there and the pool stays within the limit, and since
 -- the record that it leads to is lawful there is room for it.
-use Rattle.std.proofs.Common.{◌≡◌, ℕ, zero, suc, ◌+◌, ◌<◌, ◌≤◌, true, cond, not, List, [], ◌∷◌, length, get_or, take, drop, is_ok, Result, sym, refl, ap, ◌∙◌, subst, inl, inr, arith}
+use Rattle.std.proofs.Common.{◌≡◌, ◌<◌, ◌≤◌, true, cond, not, List, [], ◌∷◌, length, get_or, is_ok, Result, sym, ap, ◌∙◌, inl, inr, refl, arith}
 use mathlib.Core.Logic.{∥∥₁_elim}
 use denote.Struct.Props.{props}
-use Rattle.std.proofs.lemmas.List.{length-append, length-drop, length-take-le}
 use Rattle.std.proofs.lemmas.Bool.{cases_eq, and_parts, not-true, false≢true}
 use Rattle.entries.specs.declared.lists.Entry.{Entry}
-use Rattle.entries.specs.declared.lists.Entries.{Entries}
 use Rattle.entries.specs.declared.filling.InsertRefusal.{InsertRefusal}
 use Rattle.entries.specs.Limits.{max_depots}
-use Rattle.entries.specs.Lists.{list_of, on, insert}
-use Rattle.entries.specs.Filling.{grown, Inserted}
+use Rattle.entries.specs.Lists.{on, insert}
+use Rattle.entries.specs.Filling.{Inserted}
 use Rattle.entries.proofs.Rising.{rising_short}
 use Rattle.entries.proofs.Insertion.{insert_length, is_taken}
 use Rattle.protocol.specs.State.{Site, State, gathers}
 use Rattle.protocol.specs.Law.{Law}
 use Rattle.protocol.specs.Steps.{fits_gathered, gathered_with}
-use Rattle.book.specs.Calls.{PlaceFits}
 
 -- a lawful record has gathered no more entries than there can be depots
 gathered_few : (a : Site) (s : State) → ∥ Law a s ∥₁ → length s.gathered ≤ max_depots
@@ -31,66 +28,29 @@ gathered_few a s ok =
       | inr e ↦ (let h = ap length (law.lists.ungathered e) in omega arith)
     ])
 
-module _ (a : Site) (s : State) (e : Entry) (before after : Entries) (r : Result (Unit {0}) InsertRefusal)
-    (did : Inserted e before r after) (fits : fits_gathered (list_of before) (e ∷ []) ≡ true)
-    (ok : ∥ Law a (gathers (insert e (list_of before)) s) ∥₁) where
-  room_left : length (list_of before) < max_depots
-  room_left =
-      let h = gathered_few a (gathers (insert e (list_of before)) s) ok in
-      let n = insert_length e (list_of before) in
-      omega arith
+-- the list with the entry in its order
+pub gathered_now : (a : Site) (s : State) (e : Entry) {after : List Entry} {r : Result (Unit {0}) InsertRefusal}
+    → Inserted e s.gathered r after → fits_gathered s.gathered (e ∷ []) ≡ true
+    → ∥ Law a (gathers (insert e s.gathered) s) ∥₁ → after ≡ insert e s.gathered
+gathered_now a s e {r = r} did fits ok =
+    let few = gathered_few a (gathers (insert e s.gathered) s) ok in
+    let more = insert_length e s.gathered in
+    let (absent, within) = and_parts (not (on s.gathered e.depot)) _ fits in
+    let taken : is_ok r ≡ true =
+    ap is_ok (did.answer ∙ sym (is_taken e s.gathered (not-true _ absent) (omega arith) within)) in
+    did.list ∙ ap (λ b. cond b (insert e s.gathered) s.gathered) taken
 
-  taken : is_ok r ≡ true
-  taken =
-      let (absent, within) = and_parts (not (on (list_of before) e.depot)) _ fits in
-      ap is_ok (did.answer ∙ sym (is_taken e (list_of before) (not-true _ absent) room_left within))
+-- an Offer whose entry fits has one, it is the first, and it is the entry that is gathered
+pub offered_some : (gathered es : List Entry) → fits_gathered gathered es ≡ true → 0 < length es
+offered_some gathered [] h = absurd (false≢true h)
+offered_some gathered (e ∷ es) h = omega arith
 
-  -- the list with the entry in its order
-  pub gathered_now : list_of after ≡ insert e (list_of before)
-  gathered_now = did.list ∙ ap (λ b. cond b (insert e (list_of before)) (list_of before)) taken
+pub offered_fits : (gathered es : List Entry) (z : Entry) → fits_gathered gathered es ≡ true
+    → fits_gathered gathered (get_or es 0 z ∷ []) ≡ true
+offered_fits gathered [] z h = absurd (false≢true h)
+offered_fits gathered (e ∷ es) z h = h
 
-  after_is : after ≡ grown e before
-  after_is = did.place ∙ ap (λ b. cond b (grown e before) before) taken
-
-  -- and its place fits as it did
-  pub still_fits : PlaceFits before → PlaceFits after
-  unfolding grown
-  still_fits (long, count) = subst PlaceFits (sym after_is) fits_grown
-    where
-      counted : length (list_of before) ≡ before.count
-      counted = length-take-le before.count before.items (omega (arith, long, count))
-
-      fits_grown : PlaceFits (grown e before)
-      fits_grown =
-          let n = insert_length e (list_of before) in
-          let d = length-drop (before.count + 1) before.items in
-          let l = length-append (insert e (list_of before)) (drop (before.count + 1) before.items) in
-          let room = room_left in
-          let c = counted in
-          (omega arith, omega arith)
-
--- the entry that an Offer carries is the first in its place
-first_fits : (gathered : List Entry) (z : Entry) (n : ℕ) (items : List Entry)
-    → fits_gathered gathered (take n items) ≡ true → fits_gathered gathered (get_or items 0 z ∷ []) ≡ true
-first_fits gathered z zero items h = absurd (false≢true h)
-first_fits gathered z (suc n) [] h = absurd (false≢true h)
-first_fits gathered z (suc n) (e ∷ es) h = h
-
--- and it is the entry that is gathered
-first_gathered : (gathered : List Entry) (z : Entry) (n : ℕ) (items : List Entry)
-    → fits_gathered gathered (take n items) ≡ true
-    → gathered_with gathered (take n items) ≡ insert (get_or items 0 z) gathered
-first_gathered gathered z zero items h = absurd (false≢true h)
-first_gathered gathered z (suc n) [] h = absurd (false≢true h)
-first_gathered gathered z (suc n) (e ∷ es) h = refl
-
--- the same at a place: its first entry fits
-pub offered_fits : (gathered : List Entry) (z : Entry) (place : Entries)
-    → fits_gathered gathered (list_of place) ≡ true → fits_gathered gathered (get_or place.items 0 z ∷ []) ≡ true
-offered_fits gathered z place h = first_fits gathered z place.count place.items h
-
--- and its first entry is gathered
-pub offered_gathered : (gathered : List Entry) (z : Entry) (place : Entries)
-    → fits_gathered gathered (list_of place) ≡ true
-    → gathered_with gathered (list_of place) ≡ insert (get_or place.items 0 z) gathered
-offered_gathered gathered z place h = first_gathered gathered z place.count place.items h
+pub offered_gathered : (gathered es : List Entry) (z : Entry) → fits_gathered gathered es ≡ true
+    → gathered_with gathered es ≡ insert (get_or es 0 z) gathered
+offered_gathered gathered [] z h = absurd (false≢true h)
+offered_gathered gathered (e ∷ es) z h = refl

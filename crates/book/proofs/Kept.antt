@@ -8,7 +8,8 @@ use Rattle.std.proofs.lemmas.List.{get_or-set_same, get_or-set_other}
 use Rattle.policies.specs.Shares.{level}
 use Rattle.policies.specs.Dealt.{level_lawful}
 use Rattle.protocol.specs.Policy.{Policy}
-use Rattle.protocol.specs.State.{upd, Site, State}
+use Rattle.entries.specs.Limits.{max_depots}
+use Rattle.protocol.specs.State.{upd, Site, Row, State}
 use Rattle.protocol.specs.Outcome.{Outcome, after}
 use Rattle.protocol.specs.Law.{Law}
 use Rattle.protocol.specs.Keeping.{Keeps, CallsKeep}
@@ -80,3 +81,21 @@ blank_rows k = fun_ext (λ L. ap row_of (all_blank k L))
 -- a state that was written is the one that was to be lawful
 pub written_kept : (a : Site) (t u : State) → t ≡ u → ∥ Law a u ∥₁ → ∥ Law a t ∥₁
 written_kept a t u e ok = subst (λ x. ∥ Law a x ∥₁) (sym e) ok
+
+-- the leader in whose row a depot has stood is a depot
+pub stood_low : (a : Site) (t : State) (L : ℕ) → 1 ≤ (t.rows L).standing → ∥ Law a t ∥₁ → L < max_depots
+stood_low a t L k ok =
+    ∥∥₁_elim ok (hlevel props)
+    (λ law. let l = (law.rows.row L).low k in let n = law.site.size in omega arith)
+
+-- so is the leader whose row was changed
+pub changed_low : (a : Site) (rows : ℕ → Row) (L : ℕ) (r : Row) (t : State) → t.rows ≡ upd rows L r → 1 ≤ r.standing
+    → ∥ Law a t ∥₁ → L < max_depots
+changed_low a rows L r t e k ok =
+    elim (upd_tells rows L r L) [
+      | inl u ↦ (
+          let q : (t.rows L).standing ≡ r.standing = ap (λ f. (f L).standing) e ∙ ap (λ x. x.standing) u.1 in
+          stood_low a t L (omega arith) ok
+          )
+      | inr u ↦ absurd (u.0 refl)
+    ]

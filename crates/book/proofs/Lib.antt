@@ -1,5 +1,6 @@
-pub mod Searched
 pub mod Kept
+pub mod Engaged
+pub mod Standings
 pub mod Answering
 pub mod Plain
 pub mod Mailing
@@ -12,4 +13,6 @@ pub mod Gathering
 pub mod Covering
 pub mod Stepping
 pub mod Carrying
+pub mod Admitting
+pub mod Partnering
 pub mod Following

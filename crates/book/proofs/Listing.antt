@@ -1,9 +1,9 @@
 -- The record's lists: their depots are depots, and sums over them one entry at a time.
-use Rattle.std.proofs.Common.{◌≡◌, ℕ, ◌+◌, ◌-◌, ◌<◌, ◌≤◌, true, cond, eqb, List, [], ◌∷◌, length, get_or, drop, sym, ap, ◌∙◌, subst, inl, inr, arith}
+use Rattle.std.proofs.Common.{◌≡◌, ℕ, ◌+◌, ◌<◌, ◌≤◌, Bool, true, false, cond, not, eqb, List, [], ◌∷◌, refl, sym, ap, ◌∙◌, subst, inl, inr, arith}
 use mathlib.Core.Logic.{∥∥₁_elim, ∥∥₁_map}
 use denote.Struct.Props.{props}
-use Rattle.std.specs.List.{AllByRecursion}
-use Rattle.std.proofs.lemmas.List.{at_drop_more}
+use Rattle.std.specs.List.{AllByRecursion, filter, sum_by}
+use Rattle.std.proofs.lemmas.List.Sums.{sum_by-cons}
 use Rattle.std.proofs.lemmas.Bool.{cases_eq, false≢true}
 use Rattle.entries.specs.declared.lists.Entry.{Entry}
 use Rattle.entries.specs.Limits.{max_depots}
@@ -22,23 +22,21 @@ all_depots : (n : ℕ) (es : List Entry) → n ≤ max_depots → AllByRecursion
 all_depots n [] h all = tt
 all_depots n (e ∷ es) h all = (let l = all.0 in omega arith, all_depots n es h all.1)
 
-pub gathered_depots : (a : Site) (s : State) → (s.rows a.depot).standing ≡ 1 → ∥ Law a s ∥₁
-    → AllByRecursion (λ e. e.depot < max_depots) s.gathered
-gathered_depots a s e ok =
-    depots_known max_depots s.gathered
-    (∥∥₁_map ok (λ law. all_depots a.n s.gathered law.site.size (law.lists.gathering e).0.begun.depots))
+-- whoever is gathered is a depot: entries are gathered only while the depot leads
+pub gathered_depots : (a : Site) (s : State) → ∥ Law a s ∥₁ → AllByRecursion (λ e. e.depot < max_depots) s.gathered
+gathered_depots a s ok =
+    depots_known max_depots s.gathered (∥∥₁_map ok (λ law. elim (cases_eq (s.rows a.depot).standing 1) [
+      | inl e ↦ all_depots a.n s.gathered law.site.size (law.lists.gathering e).0.begun.depots
+      | inr e ↦ subst (AllByRecursion (λ x. x.depot < max_depots)) (sym (law.lists.ungathered e)) tt
+    ]))
 
 -- who is bound has a list that may be shared out
 pub listed_now : (a : Site) (s : State) (L : ℕ) → (s.rows L).standing ≡ 2 → ∥ Law a s ∥₁ → Listed s.list
 listed_now a s L e ok = listed_known s.list (∥∥₁_map ok (λ law. bound_listed a s law L e))
 
-pub list_depots : (a : Site) (s : State) (L : ℕ) → (s.rows L).standing ≡ 2 → ∥ Law a s ∥₁
-    → AllByRecursion (λ e. e.depot < max_depots) s.list
-list_depots a s L e ok = (listed_now a s L e ok).depots
-
 -- whoever stands on a record's list is a depot: a list is there only while the depot is bound
-pub all_list_depots : (a : Site) (s : State) → ∥ Law a s ∥₁ → AllByRecursion (λ e. e.depot < max_depots) s.list
-all_list_depots a s ok = depots_known max_depots s.list (∥∥₁_map ok (λ law. elim (cases_eq (s.rows (leader a s)).standing 2) [
+pub list_depots : (a : Site) (s : State) → ∥ Law a s ∥₁ → AllByRecursion (λ e. e.depot < max_depots) s.list
+list_depots a s ok = depots_known max_depots s.list (∥∥₁_map ok (λ law. elim (cases_eq (s.rows (leader a s)).standing 2) [
   | inl e ↦ (bound_listed a s law (leader a s) e).depots
   | inr e ↦ subst (λ es. AllByRecursion (λ x. x.depot < max_depots) es) (sym (law.lists.unbound (λ L k. e (
       ap (λ l. (s.rows l).standing) ((own_calls a s law).found L (omega arith)) ∙ k
@@ -54,12 +52,17 @@ gathered_below a s y ok h =
       | inr e ↦ absurd (false≢true (subst (λ es. on es y ≡ true) (law.lists.ungathered e) h))
     ])
 
--- the sum of the other shelves, one entry more at the front
-pub elsewhere_more : (d : ℕ) (es : List Entry) (i : ℕ) (z : Entry) → 0 < i → i ≤ length es
-    → elsewhere d (drop (i - 1) es)
-    ≡ cond (eqb (get_or es (i - 1) z).depot d) 0 (get_or es (i - 1) z).shelf + elsewhere d (drop i es)
+-- the pieces on the other shelves, as the sum over the entries of other depots
+pub elsewhere_sum : (d : ℕ) (es : List Entry)
+    → sum_by (λ e. e.shelf) (filter (λ e. not (eqb e.depot d)) es) ≡ elsewhere d es
 unfolding elsewhere
-elsewhere_more d es i z h n =
-    let e : i - 1 + 1 ≡ i = omega arith in
-    at_drop_more (λ xs. elsewhere d xs) es (i - 1) z (omega arith)
-    ∙ ap (λ k. cond (eqb (get_or es (i - 1) z).depot d) 0 (get_or es (i - 1) z).shelf + elsewhere d (drop k es)) e
+elsewhere_sum d [] = refl
+elsewhere_sum d (e ∷ es) = by (eqb e.depot d) (elsewhere_sum d es)
+  where
+    others : List Entry
+    others = filter (λ x. not (eqb x.depot d)) es
+
+    by : (b : Bool) → sum_by (λ x. x.shelf) others ≡ elsewhere d es
+        → sum_by (λ x. x.shelf) (cond (not b) (e ∷ others) others) ≡ cond b 0 e.shelf + elsewhere d es
+    by true rest = omega (arith, rest)
+    by false rest = sum_by-cons (λ x. x.shelf) e others ∙ ap (λ n. e.shelf + n) rest

@@ -14,9 +14,8 @@ use Rattle.protocol.specs.State.{pick, Site, State}
 use Rattle.protocol.specs.Outcome.{Outcome, sends, mail, note}
 use Rattle.protocol.specs.Law.{Law}
 use Rattle.protocol.specs.Keeping.{Keeps, Readable}
-use Rattle.book.specs.declared.parts.Sent.{Sent}
-use Rattle.book.specs.declared.parts.Sent.TheVariants.{Nothing, To}
-use Rattle.book.specs.Calls.{Posted}
+use Rattle.std.specs.declared.option.Option.TheVariants as options
+use Rattle.book.specs.Calls.{Posted, Sent}
 use Rattle.book.proofs.Plain.{readable_known}
 
 module _ (a : Site) (s : State) (k : Kind) (to : Depots) (L : ℕ) (es : List Entry) where
@@ -28,12 +27,12 @@ module _ (a : Site) (s : State) (k : Kind) (to : Depots) (L : ℕ) (es : List En
   unfolding mail pick
   one_sent e = rw (ne_eqb to.0 0 e) refl
 
-  pub posted_none : (lent : Message) → to.0 ≡ 0 → Posted (mail a s k to.0 L es) Nothing lent lent
-  posted_none lent e = subst (λ m. Posted m Nothing lent lent) (sym (none_sent e)) refl
+  pub posted_none : (lent : Message) → to.0 ≡ 0 → Posted (mail a s k to.0 L es) options.None lent lent
+  posted_none lent e = subst (λ m. Posted m options.None lent lent) (sym (none_sent e)) refl
 
   pub posted_some : (lent left : Message) → (to.0 ≡ 0 → ⊥) → message_says left ≡ note a s k to.0 L es
-      → Posted (mail a s k to.0 L es) (To to) lent left
-  posted_some lent left e h = subst (λ m. Posted m (To to) lent left) (sym (one_sent e)) (refl, h)
+      → Posted (mail a s k to.0 L es) (options.Some to) lent left
+  posted_some lent left e h = subst (λ m. Posted m (options.Some to) lent left) (sym (one_sent e)) (refl, h)
 
   -- a letter that is sent is lawful
   pub note_lawful : (to.0 ≡ 0 → ⊥) → Readable (mail a s k to.0 L es) → Lawful (note a s k to.0 L es)
@@ -48,6 +47,11 @@ fine a s o m keeps e ok = readable_known m (∥∥₁_map ok (λ law. subst Read
 pub mail_is : {a a' : Site} {s s' : State} (k : Kind) {to to' : ℕ} (L : ℕ) (es : List Entry) → a ≡ a' → s ≡ s'
     → to ≡ to' → mail a s k to L es ≡ mail a' s' k to' L es
 mail_is k L es e f g = cc
+
+-- the same with an equal list
+pub mail_with : {a a' : Site} {s s' : State} (k : Kind) {to to' : ℕ} (L : ℕ) {es es' : List Entry} → a ≡ a' → s ≡ s'
+    → to ≡ to' → es ≡ es' → mail a s k to L es ≡ mail a' s' k to' L es'
+mail_with k L e f g h = cc
 
 pub posted_as : {m m' : Option Contents} (x : Sent) (lent left : Message) → m ≡ m' → Posted m x lent left
     → Posted m' x lent left

@@ -18,10 +18,9 @@ use Rattle.protocol.specs.Law.{Law}
 use Rattle.protocol.specs.Keeping.{Readable}
 use Rattle.protocol.specs.Own.{again, remind}
 use Rattle.protocol.specs.declared.refusal.Refusal.{Refusal}
-use Rattle.book.specs.declared.parts.Sent.{Sent}
 use Rattle.book.specs.declared.record.Record.{Record}
 use Rattle.book.specs.View.{site, view}
-use Rattle.book.specs.Calls.{told, at, Answered, Called}
+use Rattle.book.specs.Calls.{told, at, Answered, Called, Sent}
 use Rattle.book.proofs.Kept.{own_calls}
 use Rattle.book.proofs.Plain.{readable_known}
 

@@ -1,28 +1,27 @@
 -- Steps that are served: since the outcome keeps the law, so does the record that it names, and the letter that it
 -- names can be read; and what the steps that may conclude a handover come to.
-use Rattle.std.proofs.Common.{◌≡◌, ℕ, Bool, true, false, List, [], Ok, sym, refl, ap, subst}
+use Rattle.std.proofs.Common.{◌≡◌, ℕ, Bool, true, false, List, [], Ok, sym, refl, ap, ◌∙◌, subst}
 use mathlib.Core.Logic.{∥∥₁_map}
 use mathlib.Core.Option.{Option, none}
 use Rattle.entries.specs.declared.lists.Entry.{Entry}
 use Rattle.entries.specs.Sets.{has, mark, add}
-use Rattle.letters.specs.declared.letter.Head.{Head}
 use Rattle.letters.specs.declared.letter.Kind.{Kind}
 use Rattle.letters.specs.declared.letter.Kind.TheVariants as kinds
 use Rattle.letters.specs.declared.message.Message.{Message}
 use Rattle.letters.specs.Contents.{Contents}
 use Rattle.protocol.specs.declared.step.Step.{Step}
 use Rattle.protocol.specs.declared.step.Step.TheVariants as steps
+use Rattle.policies.specs.Shares.{share_of}
 use Rattle.protocol.specs.Policy.{Policy}
 use Rattle.protocol.specs.Listing.{every}
 use Rattle.protocol.specs.Law.{Law}
 use Rattle.protocol.specs.Keeping.{Keeps, Readable}
-use Rattle.protocol.specs.State.{pick, Site, State, pair, others, hears, bound, settled}
+use Rattle.protocol.specs.State.{pick, Site, State, pair, others, stocked, hears, bound, ended, settled}
 use Rattle.protocol.specs.Outcome.{Outcome, serves, after, sends, mail}
 use Rattle.protocol.specs.Steps.{concluded}
-use Rattle.book.specs.declared.parts.Sent.{Sent}
 use Rattle.book.specs.declared.record.Record.{Record}
 use Rattle.book.specs.View.{site, view}
-use Rattle.book.specs.Calls.{at, stepped, Posted, Called}
+use Rattle.book.specs.Calls.{at, stepped, Posted, Called, Sent}
 use Rattle.book.proofs.Answering.{call_served}
 use Rattle.book.proofs.Mailing.{mail_is, posted_as}
 use Rattle.book.proofs.Plain.{readable_known}
@@ -48,45 +47,64 @@ pub step_said : {call : Site → State → Outcome} {r t : Record} {u : State} {
 step_said {x = x} {lent = lent} {left = left} k L es q e f g h =
     call_served q f e (posted_as x lent left (mail_is k L es e f g) h)
 
--- accepting and hearing, with all on the list heard and without
-module _ (P : Policy) (head : Head) (es : List Entry) (a : Site) (s : State) where
-  abbrev L : ℕ
-  L = head.leader
+-- settling with the share that the policy gives
+module _ (P : Policy) (L : ℕ) (es : List Entry) (r : Record) {share : ℕ} (e : share ≡ share_of P.share es (site r).depot)
+  where
+    abbrev given : ℕ → State
+    given n = ended L 4 (stocked n (view r).tray 0 (view r))
 
+    pub may_settle : ∥ Law (site r) (settled P (site r) L es (view r)) ∥₁ → ∥ Law (site r) (given share) ∥₁
+    may_settle ok = subst (λ n. ∥ Law (site r) (given n) ∥₁) (sym e) ok
+
+    pub is_settled : {t : State} → t ≡ given share → t ≡ settled P (site r) L es (view r)
+    is_settled q = q ∙ ap given e
+
+-- binding to the list that a letter carries
+module _ (L : ℕ) (r : Record) {es es' : List Entry} (e : es ≡ es') where
+  abbrev tied : List Entry → State
+  tied xs = bound L xs (pair (site r) L) (view r).owing (view r)
+
+  pub may_bind : ∥ Law (site r) (tied es') ∥₁ → ∥ Law (site r) (tied es) ∥₁
+  may_bind ok = subst (λ xs. ∥ Law (site r) (tied xs) ∥₁) (sym e) ok
+
+  pub is_bound : {t : State} → t ≡ tied es → t ≡ tied es'
+  is_bound q = q ∙ ap tied e
+
+-- accepting and hearing, with all on the list heard and without
+module _ (P : Policy) (m : Contents) (a : Site) (s : State) where
   abbrev accepting : State
-  accepting = bound L es (pair a L) s.owing s
+  accepting = bound m.leader m.entries (pair a m.leader) s.owing s
 
   abbrev hearing : ℕ
-  hearing = add s.heard head.sender
+  hearing = add s.heard m.sender
 
-  pub accept_settles : every es (has (pair a L)) ≡ true → stepped P false head es steps.Accept a s
-      ≡ serves (settled P a L es s) (mail a (settled P a L es s) kinds.Settle (others a es) L [])
+  -- a letter about its handover
+  abbrev of : State → Kind → ℕ → Option Contents
+  of t k to = mail a t k to m.leader []
+
+  pub accept_settles : every m.entries (has (pair a m.leader)) ≡ true → stepped P false m steps.Accept a s
+      ≡ serves (settled P a m.leader m.entries s)
+      (of (settled P a m.leader m.entries s) kinds.Settle (others a m.entries))
   unfolding concluded pick
   accept_settles e = rw e refl
 
-  pub accept_binds : every es (has (pair a L)) ≡ false → stepped P false head es steps.Accept a s
-      ≡ serves accepting (mail a accepting kinds.Yes (mark L) L [])
+  pub accept_binds : every m.entries (has (pair a m.leader)) ≡ false
+      → stepped P false m steps.Accept a s ≡ serves accepting (of accepting kinds.Yes (mark m.leader))
   unfolding concluded pick
   accept_binds e = rw e refl
 
-  pub hear_settles : every s.list (has hearing) ≡ true → stepped P false head es steps.Hear a s
-      ≡ serves (settled P a L s.list s)
-      (mail a (settled P a L s.list s) kinds.Settle (others a s.list) L [])
+  pub hear_settles : every s.list (has hearing) ≡ true
+      → stepped P false m steps.Hear a s
+      ≡ serves (settled P a m.leader s.list s) (of (settled P a m.leader s.list s) kinds.Settle (others a s.list))
   unfolding concluded pick
   hear_settles e = rw e refl
 
   pub hear_waits : every s.list (has hearing) ≡ false
-      → stepped P false head es steps.Hear a s ≡ serves (hears hearing s) none
+      → stepped P false m steps.Hear a s ≡ serves (hears hearing s) none
   unfolding concluded pick
   hear_waits e = rw e refl
 
 -- the outcome of a step that is known
-pub step_is : (P : Policy) (b : Bool) (head : Head) (es : List Entry) (a : Site) (s : State) {x y : Step} → x ≡ y
-    → stepped P b head es x a s ≡ stepped P b head es y a s
-step_is P b head es a s e = ap (λ z. stepped P b head es z a s) e
-
--- hearing looks at no entries
-pub hear_alone : (P : Policy) (b : Bool) (head : Head) (es : List Entry) (a : Site) (s : State)
-    → stepped P b head es steps.Hear a s ≡ stepped P false head [] steps.Hear a s
-unfolding concluded
-hear_alone P b head es a s = refl
+pub step_is : (P : Policy) (b : Bool) (m : Contents) (a : Site) (s : State) {x y : Step} → x ≡ y
+    → stepped P b m x a s ≡ stepped P b m y a s
+step_is P b m a s e = ap (λ z. stepped P b m z a s) e

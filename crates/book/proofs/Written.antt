@@ -1,5 +1,5 @@
 -- States of a record whose fields were written one by one.
-use Rattle.std.proofs.Common.{◌≡◌, ℕ, ◌<◌, List, [], ◌∷◌, length, take, set, refl, arith}
+use Rattle.std.proofs.Common.{◌≡◌, ℕ, List}
 use Rattle.entries.specs.declared.lists.Entry.{Entry}
 use Rattle.protocol.specs.State.{Row, State}
 
@@ -22,8 +22,3 @@ pub state_is : (shelf tray wish : ℕ) {rows rows' : ℕ → Row} {list list' ga
     → owing ≡ owing'
     → make shelf tray wish rows list heard gathered owing ≡ make shelf tray wish rows' list' heard' gathered' owing'
 state_is shelf tray wish e f g h k = cc
-
--- one entry written at the front of a place
-pub one_entry : (es : List Entry) (e : Entry) → 0 < length es → take 1 (set es 0 e) ≡ e ∷ []
-one_entry [] e h = absurd (omega arith)
-one_entry (x ∷ es) e h = refl

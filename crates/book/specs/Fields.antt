@@ -1,10 +1,9 @@
 -- From the fields of a record to its site and state.
-use Rattle.std.specs.Prelude.{◌≡◌, ℕ, ◌+◌, ◌<◌, ◌≤◌, List, length, slice_index, slice_index_or}
-use Rattle.entries.specs.declared.lists.Entries.{Entries}
+use Rattle.std.specs.Prelude.{◌≡◌, ℕ, ◌+◌, ◌<◌, ◌≤◌, true, false, List, length, Some, None, Option, slice_index, slice_index_or}
+use Rattle.entries.specs.declared.lists.Entry.{Entry}
 use Rattle.entries.specs.declared.sets.Depots.{Depots}
 use Rattle.entries.specs.Limits.{max_depots, max_wish, max_shelf, max_pool}
-use Rattle.entries.specs.Lists.{list_of}
-use Rattle.protocol.specs.State.{Site, Row, State}
+use Rattle.protocol.specs.State.{Site, Row, State, engages}
 use Rattle.protocol.specs.declared.standing.Standing.TheVariants.{Blank}
 use Rattle.book.specs.declared.parts.Row as parts
 use Rattle.book.specs.declared.parts.Rows.{Rows}
@@ -28,27 +27,23 @@ rows_of rs L = row_of (slice_index_or rs L blank_row)
 abbrev pub shares_of : List ℕ → ℕ → ℕ
 shares_of of depot = slice_index of depot
 
-abbrev pub state_of : ℕ → ℕ → ℕ → Rows → Entries → Depots → Entries → Depots → State
+abbrev pub state_of : ℕ → ℕ → ℕ → Rows → List Entry → Depots → List Entry → Depots → State
 state_of shelf tray wish rows list heard gathered owing =
     record {
       shelf = shelf;
       tray = tray;
       wish = wish;
       rows = rows_of rows.of;
-      list = list_of list;
+      list = list;
       heard = heard.0;
-      gathered = list_of gathered;
+      gathered = gathered;
       owing = owing.0;
     }
 
--- the arrays have a place for each depot, and the lists are no longer
-abbrev pub Room : List parts.Row → Entries → Entries → Type 0
-Room rows list gathered =
-    (length rows ≡ max_depots)
-    × (length list.items ≡ max_depots)
-    × (length gathered.items ≡ max_depots)
-    × (list.count ≤ max_depots)
-    × (gathered.count ≤ max_depots)
+-- the first of some rows that engages the depot, if there is one
+abbrev pub EngagedIn : List parts.Row → Option ℕ → Type 0
+EngagedIn rs None = (L : ℕ) → L < length rs → engages (rows_of rs L).standing ≡ false
+EngagedIn rs (Some L) = (L < length rs) × (engages (rows_of rs L).standing ≡ true)
 
 -- the part of the law that the code's sums and tests rely on
 abbrev pub Bounds : Site → State → Type 0

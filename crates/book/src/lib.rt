@@ -10,5 +10,5 @@ pub mod parts;
 pub mod record;
 
 pub use opening::{Draft, Opened, Plan};
-pub use parts::{Identity, Row, Rows, Sent};
+pub use parts::{Identity, Row, Rows};
 pub use record::Record;

@@ -1,5 +1,8 @@
-// The plain parts of a record, and what its calls answer.
-use entries::{Depots, PLACES};
+// The plain parts of a record.
+ghost use Rattle.std.specs.Prelude.{◌≡◌, length};
+ghost use Rattle.entries.specs.Limits.{max_depots};
+
+use entries::PLACES;
 use protocol::Standing;
 
 /// The last handover of a leader that a depot knows of: its number, and where the depot stands in it.
@@ -9,10 +12,17 @@ pub struct Row {
     pub standing: Standing,
 }
 
+/// A row in which nothing has stood.
+pub(crate) const BLANK_ROW: Row = Row {
+    number: 0,
+    standing: Standing::Blank,
+};
+
 /// One row for each leader.
 #[derive(Clone, Copy)]
 pub struct Rows {
     pub of: [Row; PLACES],
+    ghost one_each: { length of ≡ max_depots },
 }
 
 /// What never changes in a record: which depot it is, of how many, and under which policy's code.
@@ -21,11 +31,4 @@ pub struct Identity {
     pub depot: u8,
     pub depots: u8,
     pub code: u8,
-}
-
-/// What a served call sends: nothing, or the lent message to these depots.
-#[derive(Clone, Copy)]
-pub enum Sent {
-    Nothing,
-    To(Depots),
 }

@@ -1,7 +1,7 @@
 // A depot's record. Its type carries the whole law.
 ghost use Rattle.std.specs.Prelude.{◌≡◌};
 ghost use Rattle.protocol.specs.Law.{Law};
-ghost use Rattle.book.specs.Fields.{site_of, state_of, Room, Bounds};
+ghost use Rattle.book.specs.Fields.{site_of, state_of, Bounds};
 
 use crate::parts::{Identity, Rows};
 use entries::{Depots, Entries};
@@ -21,8 +21,7 @@ mod stock;
 /// What one depot knows: its stock, where it stands in the handover of each leader, and what it gathers, is bound to
 /// and is owed. An opened set hands it out, and nothing but its calls changes it.
 ///
-/// Its type carries what every record keeps: `kept` is the law, `bounds` the part of it that sums and tests rely on,
-/// and `room` says that the arrays have their lengths.
+/// Its type carries what every record keeps: `kept` is the law, and `bounds` the part of it that sums and tests rely on.
 #[derive(Drop)]
 pub struct Record {
     identity: Identity,
@@ -34,7 +33,6 @@ pub struct Record {
     heard: Depots,
     gathered: Entries,
     owing: Depots,
-    ghost room: { Room rows.of list gathered },
     ghost bounds: { Bounds (site_of identity) (state_of shelf tray wish rows list heard gathered owing) },
     ghost kept: { ∥ Law (site_of identity) (state_of shelf tray wish rows list heard gathered owing) ∥₁ },
 }

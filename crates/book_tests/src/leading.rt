@@ -1,5 +1,6 @@
 // Leading a handover, reminding, and leaving it again.
-use crate::samples::{goes_nowhere, goes_to, record, refused};
+use crate::samples::{record, refused};
+use entries::Depots;
 use letters::Message;
 use policies::{Level, WishesFirst};
 use std::test::Fail;
@@ -29,7 +30,7 @@ fn a_leader_of_sixteen(rt: HostRuntime) -> Result<(), Fail> {
     let mut message = Message::blank();
     let mut depot = record(16, 15)?;
     depot.set_wish(7)?;
-    assert!(rt; goes_to(depot.lead(&mut message)?, 32767));
+    assert_eq!(rt; depot.lead(&mut message)?, Some(Depots(32767)));
     assert_eq!(rt; message.kind.number(), 1);
     assert_eq!(rt; message.head.sender, 15);
     assert_eq!(rt; message.head.leader, 15);
@@ -42,8 +43,8 @@ fn a_leader_of_sixteen(rt: HostRuntime) -> Result<(), Fail> {
         "the policy is tested first"
     );
     assert!(rt; refused(depot.propose::<Level>(&mut message), 17));
-    assert!(rt; goes_to(depot.remind(&mut message)?, 32767));
-    assert!(rt; goes_to(depot.withdraw(&mut message)?, 32767));
+    assert_eq!(rt; depot.remind(&mut message)?, Some(Depots(32767)));
+    assert_eq!(rt; depot.withdraw(&mut message)?, Some(Depots(32767)));
     assert_eq!(rt; message.kind.number(), 7);
     assert_eq!(rt; depot.row(15).standing.number(), 3);
     assert_eq!(rt; depot.row(16).number, 0, "no depot has this number");
@@ -55,11 +56,11 @@ fn a_depot_alone(rt: HostRuntime) -> Result<(), Fail> {
     let mut message = Message::blank();
     let mut depot = record(1, 0)?;
     depot.set_wish(1)?;
-    assert!(rt; goes_nowhere(depot.lead(&mut message)?));
+    assert_eq!(rt; depot.lead(&mut message)?, None);
     assert!(rt; refused(depot.remind(&mut message), 21));
     assert!(rt; refused(depot.propose::<Level>(&mut message), 17));
-    assert!(rt; goes_nowhere(depot.withdraw(&mut message)?));
-    assert!(rt; goes_nowhere(depot.lead(&mut message)?));
+    assert_eq!(rt; depot.withdraw(&mut message)?, None);
+    assert_eq!(rt; depot.lead(&mut message)?, None);
     assert_eq!(rt; depot.row(0).number, 2);
     Ok(())
 }

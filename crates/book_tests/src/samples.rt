@@ -1,6 +1,5 @@
 // A set to try calls on, and what their answers are compared with.
-use book::{Draft, Opened, Plan, Record, Sent};
-use entries::Depots;
+use book::{Draft, Opened, Plan, Record};
 use policies::Level;
 use protocol::Refusal;
 
@@ -9,22 +8,6 @@ pub(crate) fn refused<T: Drop>(answer: Result<T, Refusal>, number: u8) -> bool {
     match answer {
         Ok(_) => false,
         Err(refusal) => refusal.number() == number,
-    }
-}
-
-/// Whether the answer is that the message goes to these depots.
-pub(crate) fn goes_to(sent: Sent, depots: u16) -> bool {
-    match sent {
-        Sent::Nothing => false,
-        Sent::To(Depots(set)) => set == depots,
-    }
-}
-
-/// Whether the answer is that nothing is sent.
-pub(crate) fn goes_nowhere(sent: Sent) -> bool {
-    match sent {
-        Sent::Nothing => true,
-        Sent::To(_) => false,
     }
 }
 

@@ -43,11 +43,11 @@ impl Plan {
 impl Draft {
     /// A draft of the plan's set under the policy, with nothing allotted yet. It is never refused.
     pub fn new<P: Policy>(plan: Plan) -> Draft
-        ensures { Drafted P.Policy.code plan result }
+        ensures { Drafted P.Policy.CODE plan result }
     {
         Draft {
             plan,
-            code: P::marked(),
+            code: P::CODE,
             left: plan.total,
             shares: Shares { of: [0; PLACES] },
             allotted: Depots::none(),

@@ -1,53 +1,45 @@
 // What Receive looks at before it chooses a line: the refusals that come first, where the depot stands in the letter's
 // handover, and what the guards of the lines ask.
-ghost use Rattle.std.specs.Prelude.{◌≡◌, ℕ, ◌<◌, ◌&&◌, List, [], ◌∷◌};
+ghost use Rattle.std.specs.Prelude.{◌≡◌, ℕ, ◌<◌};
 ghost use Rattle.std.specs.List.{AllByRecursion};
-ghost use Rattle.entries.specs.declared.lists.Entry.{Entry};
 ghost use Rattle.entries.specs.Limits.{max_depots};
-ghost use Rattle.entries.specs.Lists.{list_of};
-ghost use Rattle.letters.specs.Code.{kind_number, says};
+ghost use Rattle.entries.specs.Sets.{has};
+ghost use Rattle.protocol.specs.Listing.{every};
+ghost use Rattle.letters.specs.Writing.{message_says};
 ghost use Rattle.protocol.specs.Code.{standing_number};
 ghost use Rattle.protocol.specs.State.{fits};
 ghost use Rattle.protocol.specs.Steps.{fits_gathered, acceptable_list, situation};
-ghost use Rattle.protocol.specs.Taking.{asks, tells_end, standing_in};
+ghost use Rattle.protocol.specs.Taking.{tells_end, standing_in};
 ghost use Rattle.book.specs.Sharing.{policy_of};
 ghost use Rattle.book.specs.View.{site, view};
 ghost use Rattle.book.specs.Calls.{Admitted};
 
 use crate::record::Record;
-use entries::{Depots, Entries, Entry, entry_of, may_hold, names_of, on_list};
-use letters::{Head, Kind};
+use entries::{Depots, Entry, entry_of, may_hold, names_of, on_list};
+use letters::{Kind, Message};
 use policies::Policy;
 use protocol::{Refusal, Situation, Standing};
-
-/// Whether a letter of the kind is an Ask.
-fn asks(kind: Kind) -> bool
-    ensures { result ≡ asks kind }
-{
-    match kind {
-        Kind::Ask => true,
-        _ => false,
-    }
-}
 
 /// Whether a depot tells by a letter of the kind that its handover has ended.
 pub(crate) fn tells_end(kind: Kind) -> bool
     ensures { result ≡ tells_end kind }
 {
-    match kind {
-        Kind::No | Kind::Settle | Kind::Drop | Kind::Done => true,
-        _ => false,
-    }
+    matches!(kind, Kind::No | Kind::Settle | Kind::Drop | Kind::Done)
+}
+
+/// Whether a set has all depots on a list.
+pub(crate) fn has_all(set: Depots, list: &[Entry]) -> bool
+    requires { AllByRecursion (λ e. e.depot < max_depots) list.now }
+    ensures { result ≡ every list.now (has set.0) }
+{
+    set.covers(names_of(list))
 }
 
 /// Whether an entry's depot is on the list with this very entry.
 fn fits(list: &[Entry], own: Entry) -> bool
     ensures { result ≡ fits own.depot own.shelf own.wish list.now }
 {
-    match entry_of(list, own.depot) {
-        Some(entry) => entry.shelf == own.shelf && entry.wish == own.wish,
-        None => false,
-    }
+    entry_of(list, own.depot) == Some(own)
 }
 
 impl Record {
@@ -56,11 +48,11 @@ impl Record {
     /// Refuses another policy (18), a letter not sent to this depot (29), a sender or leader that the set does not have
     /// or the depot itself as sender (30), a number below that in the leader's row (31), one above it unless the letter
     /// is an Ask (32), a new Ask while the depot is engaged (8).
-    pub(crate) fn admit<P: Policy>(&self, kind: Kind, head: Head) -> Result<(), Refusal>
-        ensures { (es : List Entry) → Admitted (policy_of P.Policy.code P.Policy.share)
-            (says (kind_number kind) head es) self.now result }
+    pub(crate) fn admit<P: Policy>(&self, letter: &Message) -> Result<(), Refusal>
+        ensures { Admitted (policy_of P.Policy.CODE P.Policy.share) (message_says letter.now) self.now result }
     {
         let own = self.identity;
+        let head = letter.head;
         if head.code != own.code || !P::governs(own.code) {
             return Err(Refusal::OtherPolicy);
         }
@@ -74,22 +66,23 @@ impl Record {
         if head.number < known {
             return Err(Refusal::NumberPassed);
         }
-        let new = known < head.number;
-        if new && !asks(kind) {
-            return Err(Refusal::NumberUnknown);
-        }
-        if new && self.engaged() {
-            return Err(Refusal::Engaged);
+        if known < head.number {
+            if letter.kind != Kind::Ask {
+                return Err(Refusal::NumberUnknown);
+            }
+            if self.engaged() {
+                return Err(Refusal::Engaged);
+            }
         }
         Ok(())
     }
 
     /// Where the depot stands in the handover of a letter: nowhere in a new one.
-    pub(crate) fn standing_in(&self, head: Head) -> Standing
-        ensures { (k : ℕ) (es : List Entry) → standing_number result ≡ standing_in (view self.now) (says k head es) }
+    pub(crate) fn standing_in(&self, letter: &Message) -> Standing
+        ensures { standing_number result ≡ standing_in (view self.now) (message_says letter.now) }
     {
-        let row = self.row(head.leader);
-        if row.number < head.number {
+        let row = self.row(letter.head.leader);
+        if row.number < letter.head.number {
             return Standing::Blank;
         }
         row.standing
@@ -99,10 +92,9 @@ impl Record {
     /// shelf and wish are.
     fn can_accept(&self, leader: u8, list: &[Entry]) -> bool
         requires { AllByRecursion (λ e. e.depot < max_depots) list.now }
-        ensures { (y n : ℕ) → result ≡ acceptable_list (site self.now) (view self.now) leader y n
-            list.now }
+        ensures { (y n : ℕ) → result ≡ acceptable_list (site self.now) (view self.now) leader y n list.now }
     {
-        Depots::everyone(self.identity.depots).covers(names_of(list))
+        has_all(Depots::everyone(self.identity.depots), list)
             && on_list(list, leader)
             && fits(list, self.own_entry())
     }
@@ -119,19 +111,19 @@ impl Record {
         }
     }
 
-    /// What the guards of the lines ask about a letter with this head and these entries.
-    pub(crate) fn situation(&self, head: Head, entries: &Entries) -> Situation
-        requires { AllByRecursion (λ e. e.depot < max_depots) (list_of entries.now) }
-        ensures { result ≡ situation (site self.now) (view self.now) head.leader head.sender
-            head.number (list_of entries.now) }
+    /// What the guards of the lines ask about a letter.
+    pub(crate) fn situation(&self, letter: &Message) -> Situation
+        ensures { result ≡ situation (site self.now) (view self.now) letter.now.head.leader letter.now.head.sender
+            letter.now.head.number letter.now.entries }
     {
-        let list = entries.as_slice();
+        let head = letter.head;
+        let entries = letter.entries.as_slice();
         Situation {
             from_leader: head.sender == head.leader,
             to_leader: head.leader == self.identity.depot,
             from_listed: on_list(self.list.as_slice(), head.sender),
-            acceptable: self.can_accept(head.leader, list),
-            gatherable: self.can_gather(list),
+            acceptable: self.can_accept(head.leader, entries),
+            gatherable: self.can_gather(entries),
         }
     }
 }

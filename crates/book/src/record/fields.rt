@@ -1,11 +1,11 @@
 // What a record shows.
 ghost use Rattle.std.specs.Prelude.{◌≡◌};
+ghost use Rattle.protocol.specs.Code.{standing_number};
 ghost use Rattle.book.specs.Fields.{site_of, row_of};
 ghost use Rattle.book.specs.View.{site, view};
 
 use crate::parts::{Identity, Row};
 use crate::record::Record;
-use entries::is_depot;
 use protocol::Standing;
 
 impl Record {
@@ -41,12 +41,13 @@ impl Record {
     pub fn row(&self, leader: u8) -> Row
         ensures { row_of result ≡ (view self.now).rows leader }
     {
-        if !is_depot(leader) {
-            return Row {
-                number: 0,
-                standing: Standing::Blank,
-            };
-        }
-        self.rows.of[leader as usize]
+        self.rows.row(leader)
+    }
+
+    /// Where the depot stands in the row of a leader.
+    pub(crate) fn standing(&self, leader: u8) -> Standing
+        ensures { standing_number result ≡ ((view self.now).rows leader).standing }
+    {
+        self.row(leader).standing
     }
 }

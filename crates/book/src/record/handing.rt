@@ -5,10 +5,9 @@ ghost use Rattle.protocol.specs.State.{fresh};
 ghost use Rattle.book.specs.Fields.{site_of};
 ghost use Rattle.book.specs.View.{site, view};
 
-use crate::parts::{Identity, Row, Rows};
+use crate::parts::{Identity, Rows};
 use crate::record::Record;
-use entries::{Depots, Entries, PLACES};
-use protocol::Standing;
+use entries::{Depots, Entries};
 
 impl Record {
     /// A new record. Only an opened set makes one: it has checked the depot, and its shares are no more than its total.
@@ -20,18 +19,12 @@ impl Record {
         ensures state { view result ≡ fresh share }
         ensures site { site result ≡ site_of identity }
     {
-        let blank = Row {
-            number: 0,
-            standing: Standing::Blank,
-        };
         Record {
             identity,
             shelf: share,
             tray: 0,
             wish: 0,
-            rows: Rows {
-                of: [blank; PLACES],
-            },
+            rows: Rows::blank(),
             list: Entries::empty(),
             heard: Depots::none(),
             gathered: Entries::empty(),

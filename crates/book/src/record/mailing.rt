@@ -1,13 +1,13 @@
 // Filling in the letters that a depot sends.
 ghost use Rattle.std.specs.Prelude.{◌≡◌, ◌<◌, [], ◌∷◌};
 ghost use Rattle.entries.specs.Limits.{max_depots};
-ghost use Rattle.letters.specs.declared.letter.Kind.TheVariants.{Offer, List};
+ghost use Rattle.entries.specs.Sets.{mark};
+ghost use Rattle.letters.specs.declared.letter.Kind.TheVariants.{Offer};
 ghost use Rattle.protocol.specs.State.{rest};
 ghost use Rattle.protocol.specs.Keeping.{Readable};
-ghost use Rattle.book.specs.View.{site, view, head_of, mail_of, own_entry};
+ghost use Rattle.book.specs.View.{site, head_of, mail_of, own_entry};
 ghost use Rattle.book.specs.Calls.{Posted};
 
-use crate::parts::Sent;
 use crate::record::Record;
 use entries::{Depots, Entry};
 use letters::{Head, Kind, Message};
@@ -15,7 +15,6 @@ use letters::{Head, Kind, Message};
 impl Record {
     /// The head of a letter about the handover in the row of a leader.
     fn head(&self, to: Depots, leader: u8) -> Head
-        requires { leader < max_depots }
         ensures { result ≡ head_of self.now to leader }
     {
         Head {
@@ -23,49 +22,42 @@ impl Record {
             to,
             leader,
             code: self.identity.code,
-            number: self.rows.of[leader as usize].number,
+            number: self.row(leader).number,
         }
     }
 
-    /// Fills in a letter without entries about the handover of a leader. To nobody it is nothing to send.
-    pub(crate) fn say(&self, kind: Kind, to: Depots, leader: u8, out: &mut Message) -> Sent
-        requires low { leader < max_depots }
-        requires fine { Readable (mail_of self.now kind to.0 leader []) }
-        ensures { Posted (mail_of self.now kind to.0 leader []) result out.old out.new }
+    /// Fills in a letter with these entries about the handover of a leader. To nobody it is nothing to send.
+    pub(crate) fn say(
+        &self,
+        kind: Kind,
+        to: Depots,
+        leader: u8,
+        entries: &[Entry],
+        out: &mut Message,
+    ) -> Option<Depots>
+        requires { Readable (mail_of self.now kind to.0 leader entries.now) }
+        ensures { Posted (mail_of self.now kind to.0 leader entries.now) result out.old out.new }
     {
         if to.is_empty() {
-            return Sent::Nothing;
+            return None;
         }
-        out.set_plain(kind, self.head(to, leader));
-        Sent::To(to)
+        out.set(kind, self.head(to, leader), entries);
+        Some(to)
     }
 
     /// Fills in an Offer of the own entry to the leader of a handover.
-    pub(crate) fn say_offer(&self, to: Depots, leader: u8, out: &mut Message) -> Sent
+    pub(crate) fn offer(&self, leader: u8, out: &mut Message) -> Option<Depots>
         requires low { leader < max_depots }
-        requires fine { Readable (mail_of self.now Offer to.0 leader (own_entry self.now ∷ [])) }
-        ensures { Posted (mail_of self.now Offer to.0 leader (own_entry self.now ∷ [])) result
-            out.old out.new }
+        requires fine { Readable (mail_of self.now Offer (mark leader) leader (own_entry self.now ∷ [])) }
+        ensures { Posted (mail_of self.now Offer (mark leader) leader (own_entry self.now ∷ [])) result out.old out.new }
     {
-        if to.is_empty() {
-            return Sent::Nothing;
-        }
-        out.set_offer(self.head(to, leader), self.own_entry());
-        Sent::To(to)
-    }
-
-    /// Fills in the list that the depot is bound to.
-    pub(crate) fn say_list(&self, to: Depots, leader: u8, out: &mut Message) -> Sent
-        requires low { leader < max_depots }
-        requires fine { Readable (mail_of self.now List to.0 leader (view self.now).list) }
-        ensures { Posted (mail_of self.now List to.0 leader (view self.now).list) result
-            out.old out.new }
-    {
-        if to.is_empty() {
-            return Sent::Nothing;
-        }
-        out.set_list(self.head(to, leader), &self.list);
-        Sent::To(to)
+        self.say(
+            Kind::Offer,
+            Depots::mark(leader),
+            leader,
+            &[self.own_entry()],
+            out,
+        )
     }
 
     /// The depot's own entry: its shelf and its wish.

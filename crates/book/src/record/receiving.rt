@@ -1,150 +1,154 @@
 // Receiving a letter: reading the bytes, taking the letter that was read, and carrying its line out.
-ghost use Rattle.std.specs.Prelude.{◌≡◌, ◌<◌, false, List, [], Ok};
-ghost use Rattle.entries.specs.declared.lists.Entry.{Entry};
-ghost use Rattle.entries.specs.Limits.{max_depots};
-ghost use Rattle.entries.specs.Lists.{Listed, list_of};
+ghost use Rattle.std.specs.Prelude.{◌≡◌, false, Ok};
+ghost use Rattle.entries.specs.Lists.{Listed};
 ghost use Rattle.letters.specs.Contents.{Lawful};
-ghost use Rattle.letters.specs.Code.{kind_number, says, letter_says, entry_part};
+ghost use Rattle.letters.specs.Code.{letter_says, entry_part};
 ghost use Rattle.letters.specs.Reading.{entries_in};
+ghost use Rattle.letters.specs.Writing.{message_says};
 ghost use Rattle.protocol.specs.declared.step.Step.TheVariants as steps;
 ghost use Rattle.protocol.specs.Steps.{to_whom};
 ghost use Rattle.protocol.specs.Taking.{take};
 ghost use Rattle.book.specs.Sharing.{policy_of};
 ghost use Rattle.book.specs.View.{site, view};
-ghost use Rattle.book.specs.Calls.{PlaceFits, stepped, lined, Sound, StepGrounds, Called, Received};
+ghost use Rattle.book.specs.Calls.{stepped, lined, Sound, StepGrounds, Called, Received};
 
-use crate::parts::Sent;
 use crate::record::Record;
-use crate::record::deciding::tells_end;
+use crate::record::deciding::{has_all, tells_end};
 use entries::{Depots, Entries, names_of};
-use letters::{Fault, Head, Kind, Letter, Message, entries_in, read};
-use policies::Policy;
+use letters::{Fault, Kind, Letter, Message, entries_in, read};
+use policies::{Policy, share_of};
 use protocol::{Refusal, Standing, Step, Whom, decide};
 
 /// The entries that a letter carries, in a place of their own.
 fn entries_of(letter: Letter<'_>) -> Entries
     requires { Lawful (letter_says letter) }
-    ensures list { list_of result ≡ entries_in (entry_part letter.entry) }
-    ensures placed { PlaceFits result }
+    ensures { result ≡ entries_in (entry_part letter.entry) }
 {
     match letter {
-        Letter::Offer(_, bytes) => entries_in(bytes),
-        Letter::List(_, bytes) => entries_in(bytes),
+        Letter::Offer(_, bytes) | Letter::List(_, bytes) => entries_in(bytes),
         _ => Entries::empty(),
     }
 }
 
+/// A letter that was read as a message of its own, which does not refer to the caller's bytes any more.
+fn owned(letter: Letter<'_>) -> Message
+    requires { Lawful (letter_says letter) }
+    ensures { message_says result ≡ letter_says letter.entry }
+{
+    Message {
+        kind: letter.kind(),
+        head: letter.head(),
+        entries: entries_of(letter),
+    }
+}
+
 impl Record {
-    /// The depots to which the letter of a step goes.
-    fn to_whom(&self, whom: Whom, head: Head) -> Depots
-        requires leader { head.leader < max_depots }
-        requires sender { head.sender < max_depots }
-        ensures { (es : List Entry) → result.0 ≡ to_whom (site self.now) (view self.now) head.leader
-            head.sender head.number es whom }
+    /// The depots to which the letter of a step goes, where the step answers this letter.
+    fn to_whom(&self, whom: Whom, letter: &Message) -> Depots
+        ensures { result.0 ≡ to_whom (site self.now) (view self.now) letter.now.head.leader letter.now.head.sender
+            letter.now.head.number letter.now.entries whom }
     {
         match whom {
-            Whom::Leader => Depots::mark(head.leader),
-            Whom::Sender => Depots::mark(head.sender),
-            Whom::Others => self.listed_others(),
+            Whom::Leader => Depots::mark(letter.head.leader),
+            Whom::Sender => Depots::mark(letter.head.sender),
+            Whom::Others => self.others(),
         }
     }
 
-    /// Accepts a list: the depot is bound to it and sends Yes to the leader; where itself and the leader are all that
-    /// the list has, it settles at once and sends Settle to the others.
-    fn accept<P: Policy>(&mut self, head: Head, list: &Entries, out: &mut Message) -> Sent
-        requires leader { head.leader < max_depots }
-        requires placed { PlaceFits list.now }
-        requires listed { Listed (list_of list.now) }
-        requires sound { Sound (stepped (policy_of P.Policy.code P.Policy.share) false head (list_of list.now) steps.Accept)
-            self.old }
-        ensures { Called (stepped (policy_of P.Policy.code P.Policy.share) false head (list_of list.now)
+    /// Accepts the list of a letter: the depot is bound to it and sends Yes to the leader; where itself and the leader
+    /// are all that the list has, it settles at once and sends Settle to the others.
+    fn accept<P: Policy>(&mut self, letter: &Message, out: &mut Message) -> Option<Depots>
+        requires listed { Listed letter.now.entries }
+        requires sound { Sound (stepped (policy_of P.Policy.CODE P.Policy.share) false (message_says letter.now)
+            steps.Accept) self.old }
+        ensures { Called (stepped (policy_of P.Policy.CODE P.Policy.share) false (message_says letter.now)
             steps.Accept) (Ok result) self.old self.new out.old out.new }
     {
         let depot = self.identity.depot;
-        let leader = head.leader;
-        let names = names_of(list.as_slice());
-        if Depots::mark(depot).with(leader).covers(names) {
-            self.settle::<P>(leader, list);
-            return self.say(Kind::Settle, names.without(depot), leader, out);
+        let leader = letter.head.leader;
+        let list = letter.entries.as_slice();
+        if has_all(Depots::mark(depot).with(leader), list) {
+            let share = share_of::<P>(list, depot);
+            self.settle(leader, share);
+            let to = names_of(list).without(depot);
+            return self.say(Kind::Settle, to, leader, &[], out);
         }
         self.bind(leader, list);
-        self.say(Kind::Yes, Depots::mark(leader), leader, out)
+        self.say(Kind::Yes, Depots::mark(leader), leader, &[], out)
     }
 
     /// Hears the sender of a Yes; where then all on the list are heard, the depot settles and sends Settle to the
     /// others.
-    fn hear<P: Policy>(&mut self, head: Head, out: &mut Message) -> Sent
-        requires leader { head.leader < max_depots }
-        requires sender { head.sender < max_depots }
-        requires bound { ((view self.old).rows head.leader).standing ≡ 2 }
-        requires sound { Sound (stepped (policy_of P.Policy.code P.Policy.share) false head [] steps.Hear) self.old }
-        ensures { Called (stepped (policy_of P.Policy.code P.Policy.share) false head [] steps.Hear) (Ok result)
-            self.old self.new out.old out.new }
+    fn hear<P: Policy>(&mut self, letter: &Message, out: &mut Message) -> Option<Depots>
+        requires bound { ((view self.old).rows letter.now.head.leader).standing ≡ 2 }
+        requires sound { Sound (stepped (policy_of P.Policy.CODE P.Policy.share) false (message_says letter.now)
+            steps.Hear) self.old }
+        ensures { Called (stepped (policy_of P.Policy.CODE P.Policy.share) false (message_says letter.now) steps.Hear)
+            (Ok result) self.old self.new out.old out.new }
     {
-        let heard = self.heard.with(head.sender);
-        let list = self.list;
-        if heard.covers(names_of(list.as_slice())) {
-            let to = self.listed_others();
-            self.settle::<P>(head.leader, &list);
-            return self.say(Kind::Settle, to, head.leader, out);
+        let leader = letter.head.leader;
+        let heard = self.heard.with(letter.head.sender);
+        let list = self.list.as_slice();
+        if has_all(heard, list) {
+            let to = self.others();
+            let share = share_of::<P>(list, self.identity.depot);
+            self.settle(leader, share);
+            return self.say(Kind::Settle, to, leader, &[], out);
         }
         self.note_heard(heard);
-        Sent::Nothing
+        None
     }
 
-    /// Carries a step out, for a letter with this head and these entries.
+    /// Carries out a step that a letter calls for.
+    // a step is an enum, and not a closure: the rules name the form, a match over letter kind and standing
     fn act<P: Policy>(
         &mut self,
         step: Step,
         strikes: bool,
-        head: Head,
-        entries: &Entries,
+        letter: &Message,
         out: &mut Message,
-    ) -> Result<Sent, Refusal>
-        requires leader { head.leader < max_depots }
-        requires sender { head.sender < max_depots }
-        requires placed { PlaceFits entries.now }
-        requires grounds { StepGrounds (list_of entries.now) (view self.old) head.leader step }
-        requires sound { Sound (stepped (policy_of P.Policy.code P.Policy.share) strikes head (list_of entries.now) step)
+    ) -> Result<Option<Depots>, Refusal>
+        requires grounds { StepGrounds (message_says letter.now) (view self.old) step }
+        requires sound { Sound (stepped (policy_of P.Policy.CODE P.Policy.share) strikes (message_says letter.now) step)
             self.old }
-        ensures { Called (stepped (policy_of P.Policy.code P.Policy.share) strikes head (list_of entries.now)
-            step) result self.old self.new out.old out.new }
+        ensures { Called (stepped (policy_of P.Policy.CODE P.Policy.share) strikes (message_says letter.now) step)
+            result self.old self.new out.old out.new }
     {
-        let leader = head.leader;
+        let leader = letter.head.leader;
         match step {
-            Step::Unlined if strikes => Ok(Sent::Nothing),
+            Step::Unlined if strikes => Ok(None),
             Step::Unlined => Err(Refusal::NoLine),
-            Step::Stay => Ok(Sent::Nothing),
+            Step::Stay => Ok(None),
             Step::Join => {
-                self.join(leader, head.number);
-                Ok(self.say_offer(Depots::mark(leader), leader, out))
+                self.join(leader, letter.head.number);
+                Ok(self.offer(leader, out))
             }
-            Step::OfferAgain => Ok(self.say_offer(Depots::mark(leader), leader, out)),
+            Step::OfferAgain => Ok(self.offer(leader, out)),
             Step::Gather => {
-                self.gather(entries.items[0]);
-                Ok(Sent::Nothing)
+                self.gather(letter.entries.as_slice()[0]);
+                Ok(None)
             }
-            Step::Accept => Ok(self.accept::<P>(head, entries, out)),
-            Step::Hear => Ok(self.hear::<P>(head, out)),
+            Step::Accept => Ok(self.accept::<P>(letter, out)),
+            Step::Hear => Ok(self.hear::<P>(letter, out)),
             Step::Say(kind, whom) => {
-                let to = self.to_whom(whom, head);
-                Ok(self.say(kind, to, leader, out))
+                let to = self.to_whom(whom, letter);
+                Ok(self.say(kind, to, leader, &[], out))
             }
             Step::Refuse(whom) => {
-                let to = self.to_whom(whom, head);
+                let to = self.to_whom(whom, letter);
                 self.end(leader, Standing::Refused);
-                Ok(self.say(Kind::No, to, leader, out))
+                Ok(self.say(Kind::No, to, leader, &[], out))
             }
             Step::Settle(kind, whom) => {
-                let to = self.to_whom(whom, head);
-                let list = self.list;
-                self.settle::<P>(leader, &list);
-                Ok(self.say(kind, to, leader, out))
+                let to = self.to_whom(whom, letter);
+                let share = share_of::<P>(self.list.as_slice(), self.identity.depot);
+                self.settle(leader, share);
+                Ok(self.say(kind, to, leader, &[], out))
             }
             Step::Drop(kind, whom) => {
-                let to = self.to_whom(whom, head);
+                let to = self.to_whom(whom, letter);
                 self.end(leader, Standing::Dropped);
-                Ok(self.say(kind, to, leader, out))
+                Ok(self.say(kind, to, leader, &[], out))
             }
         }
     }
@@ -152,37 +156,39 @@ impl Record {
     /// Carries out the line of a letter that no refusal before the lines keeps out.
     fn follow<P: Policy>(
         &mut self,
-        kind: Kind,
-        head: Head,
-        entries: &Entries,
+        letter: &Message,
         out: &mut Message,
-    ) -> Result<Sent, Refusal>
-        requires placed { PlaceFits entries.now }
-        requires lawful { Lawful (says (kind_number kind) head (list_of entries.now)) }
-        requires sound { Sound (lined (policy_of P.Policy.code P.Policy.share)
-            (says (kind_number kind) head (list_of entries.now))) self.old }
-        ensures { Called (lined (policy_of P.Policy.code P.Policy.share)
-            (says (kind_number kind) head (list_of entries.now))) result self.old self.new
-            out.old out.new }
+    ) -> Result<Option<Depots>, Refusal>
+        requires { Sound (lined (policy_of P.Policy.CODE P.Policy.share) (message_says letter.now)) self.old }
+        ensures { Called (lined (policy_of P.Policy.CODE P.Policy.share) (message_says letter.now)) result self.old
+            self.new out.old out.new }
     {
-        let strikes = tells_end(kind) && head.leader == self.identity.depot;
+        let head = letter.head;
+        let strikes = tells_end(letter.kind) && head.leader == self.identity.depot;
         self.strike(strikes, head.sender);
-        let step = decide(kind, self.standing_in(head), self.situation(head, entries));
-        self.act::<P>(step, strikes, head, entries, out)
+        let step = decide(
+            letter.kind,
+            self.standing_in(letter),
+            self.situation(letter),
+        );
+        self.act::<P>(step, strikes, letter, out)
     }
 
     /// Takes a letter that was read. Reading has seen to it that the letter is lawful.
     ///
     /// Refuses what `admit` refuses (18, 29, 30, 31, 32, 8), then a letter without a line (33).
-    fn take<P: Policy>(&mut self, letter: Letter<'_>, out: &mut Message) -> Result<Sent, Refusal>
+    fn take<P: Policy>(
+        &mut self,
+        letter: Letter<'_>,
+        out: &mut Message,
+    ) -> Result<Option<Depots>, Refusal>
         requires { Lawful (letter_says letter) }
-        ensures { Called (λ a s. take (policy_of P.Policy.code P.Policy.share) a s (letter_says letter.entry)) result
+        ensures { Called (λ a s. take (policy_of P.Policy.CODE P.Policy.share) a s (letter_says letter.entry)) result
             self.old self.new out.old out.new }
     {
-        let kind = letter.kind();
-        let head = letter.head();
-        self.admit::<P>(kind, head)?;
-        self.follow::<P>(kind, head, &entries_of(letter), out)
+        let letter = owned(letter);
+        self.admit::<P>(&letter)?;
+        self.follow::<P>(&letter, out)
     }
 
     /// Receives a letter in bytes: what it answers goes into the lent message.
@@ -195,14 +201,11 @@ impl Record {
         &mut self,
         bytes: &[u8],
         out: &mut Message,
-    ) -> Result<Sent, Fault<Refusal>>
-        ensures { Received (policy_of P.Policy.code P.Policy.share) bytes.now result self.old
+    ) -> Result<Option<Depots>, Fault<Refusal>>
+        ensures { Received (policy_of P.Policy.CODE P.Policy.share) bytes.now result self.old
             self.new out.old out.new }
     {
         let letter = read(bytes)?;
-        match self.take::<P>(letter, out) {
-            Ok(sent) => Ok(sent),
-            Err(refusal) => Err(Fault::Handover(refusal)),
-        }
+        self.take::<P>(letter, out).map_err(Fault::Handover)
     }
 }

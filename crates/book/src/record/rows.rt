@@ -1,51 +1,78 @@
-// Where a depot stands.
-ghost use Rattle.std.specs.Prelude.{◌≡◌, ◌<◌};
+// The rows of a record, and where they engage the depot.
+ghost use Rattle.std.specs.Prelude.{◌≡◌, ◌<◌, ℕ, length};
 ghost use Rattle.entries.specs.Limits.{max_depots};
-ghost use Rattle.protocol.specs.State.{engaged, engages, leader};
+ghost use Rattle.protocol.specs.State.{upd, engaged, leader};
+ghost use Rattle.protocol.specs.Code.{standing_number};
+ghost use Rattle.book.specs.Fields.{row_of, rows_of, EngagedIn};
 ghost use Rattle.book.specs.View.{site, view};
 
+use crate::parts::{BLANK_ROW, Row, Rows};
 use crate::record::Record;
+use entries::PLACES;
+use protocol::Standing;
 
-/// Whether a depot is engaged that stands there.
-fn engages(standing: u8) -> bool
-    ensures { result ≡ engages standing }
+/// The first of these rows that engages the depot.
+fn engaged_in(rows: &[Row]) -> Option<usize>
+    ensures { EngagedIn rows.now result }
 {
-    standing == 1 || standing == 2
+    rows.iter().position(|row| row.standing.engages())
+}
+
+impl Rows {
+    /// Rows in which nothing has stood.
+    pub(crate) fn blank() -> Rows
+        ensures { rows_of result.of ≡ (λ _. record { number = 0; standing = 0 }) }
+    {
+        Rows {
+            of: [BLANK_ROW; PLACES],
+        }
+    }
+
+    /// The row of a leader, blank for a number that no depot has.
+    pub(crate) fn row(&self, leader: u8) -> Row
+        ensures { row_of result ≡ rows_of self.now.of leader }
+    {
+        self.of.get(leader as usize).copied().unwrap_or(BLANK_ROW)
+    }
+
+    /// Puts a row in place of a leader's.
+    pub(crate) fn put(&mut self, leader: u8, row: Row)
+        requires { leader < max_depots }
+        ensures { rows_of self.new.of ≡ upd (rows_of self.old.of) leader (row_of row) }
+    {
+        self.of[leader as usize] = row;
+    }
+
+    /// Has the depot stand there in the row of a leader, whose number stays.
+    pub(crate) fn stand(&mut self, leader: u8, at: Standing)
+        requires { leader < max_depots }
+        ensures { rows_of self.new.of ≡ upd (rows_of self.old.of) leader
+            (record { number = (rows_of self.old.of leader).number; standing = standing_number at }) }
+    {
+        self.of[leader as usize].standing = at;
+    }
 }
 
 impl Record {
-    /// The standing in the row of a leader, by its number.
-    pub(crate) fn stands(&self, leader: u8) -> u8
-        requires { leader < max_depots }
-        ensures { result ≡ ((view self.now).rows leader).standing }
+    /// The rows of the set's depots.
+    fn rows(&self) -> &[Row]
+        ensures length { length result.now ≡ (site self.now).n }
+        ensures rows { (L : ℕ) → L < (site self.now).n → rows_of result.now L ≡ (view self.now).rows L }
     {
-        self.rows.of[leader as usize].standing.number()
+        &self.rows.of[..self.identity.depots as usize]
     }
 
     /// Whether the depot is engaged in a handover.
     pub fn engaged(&self) -> bool
         ensures { result ≡ engaged (site self.now) (view self.now) }
     {
-        let mut found = false;
-        for i in 0..self.identity.depots {
-            if engages(self.stands(i)) {
-                found = true;
-            }
-        }
-        found
+        engaged_in(self.rows()).is_some()
     }
 
     /// The leader in whose row the depot is engaged, 0 where it is engaged in none.
     pub(crate) fn leader(&self) -> u8
-        ensures value { result ≡ leader (site self.now) (view self.now) }
-        ensures low { result < max_depots }
+        ensures { result ≡ leader (site self.now) (view self.now) }
     {
-        let mut at = 0;
-        for i in 0..self.identity.depots {
-            if engages(self.stands(i)) {
-                at = i;
-            }
-        }
-        at
+        engaged_in(self.rows()).unwrap_or(0) as u8
     }
 }

@@ -1,34 +1,87 @@
-use Rattle.std.proofs.Common.{arith}
-use Rattle.std.proofs.lemmas.Bool.Decides.{nat_tests}
-use Rattle.protocol.specs.State.{pick}
-use Rattle.protocol.specs.Taking.{newer, take}
-use Rattle.protocol.proofs.LawfulLists.{kind_back}
+use Rattle.std.proofs.Common.{sym, ap, ◌∙◌, arith}
+use Rattle.std.proofs.lemmas.Bool.{not-true, not-false}
+use Rattle.letters.specs.Writing.{message_says}
+use Rattle.book.specs.Sharing.{policy_of}
+use Rattle.book.specs.View.{site, view}
+use Rattle.book.proofs.Admitting.{asks_now, other_code, ungoverned, unaddressed, no_sender, passed, unknown, engaged_already, admitted_new, admitted}
 use Rattle.book.proofs.record.Record.admit.Goals as goal
+use Rattle.book.proofs.record.Record.admit.Goals.{then-head-own-via-then-head-own, then-head-own-via-else-head-own+then-not-governs}
 
 pub returns-then-head-own : goal.returns-then-head-own
-unfolding take pick
-returns-then-head-own g c es = grind (arith, nat_tests)
+returns-then-head-own g c =
+    let r = c.args.self.now in
+    let P = policy_of g.P.Policy.CODE g.P.Policy.share in
+    let m = message_says c.args.letter.now in
+    elim c.then-head-own.branch [
+      | then-head-own-via-then-head-own w ↦ other_code P (site r) (view r) m w.if-head-own.true
+      | then-head-own-via-else-head-own+then-not-governs w ↦ ungoverned P (site r) (view r) m
+          (sym w.governs.ensures ∙ w.if-not-governs.true)
+    ]
 
 pub returns-then-not-contains : goal.returns-then-not-contains
-unfolding take pick
-returns-then-not-contains g c es = grind (arith, nat_tests)
+returns-then-not-contains g c =
+    let r = c.args.self.now in
+    let P = policy_of g.P.Policy.CODE g.P.Policy.share in
+    let m = message_says c.args.letter.now in
+    unaddressed P (site r) (view r) m c.if-head-own.false (sym c.governs.ensures ∙ c.if-not-governs.false)
+    (sym c.contains.ensures ∙ c.if-not-contains.true)
 
 pub returns-then-head-own-2 : goal.returns-then-head-own-2
-unfolding take pick
-returns-then-head-own-2 g c es = grind (arith, nat_tests)
+returns-then-head-own-2 g c =
+    let r = c.args.self.now in
+    let P = policy_of g.P.Policy.CODE g.P.Policy.share in
+    let m = message_says c.args.letter.now in
+    no_sender P (site r) (view r) m c.if-head-own.false (sym c.governs.ensures ∙ c.if-not-governs.false)
+    (sym c.contains.ensures ∙ c.if-not-contains.false) c.then-head-own-2.either
 
 pub returns-then-head-known : goal.returns-then-head-known
-unfolding take pick
-returns-then-head-known g c es = grind (arith, nat_tests)
+returns-then-head-known g c =
+    let r = c.args.self.now in
+    let P = policy_of g.P.Policy.CODE g.P.Policy.share in
+    let m = message_says c.args.letter.now in
+    let n = ap (λ x. x.number) c.row-known.ensures in
+    passed P (site r) (view r) m c.if-head-own.false (sym c.governs.ensures ∙ c.if-not-governs.false)
+    (sym c.contains.ensures ∙ c.if-not-contains.false) c.if-head-own-2.false c.if-head-own-3.false c.if-head-own-4.false
+    (omega arith)
 
-pub returns-then-not-asks : goal.returns-then-not-asks
-unfolding take pick newer
-returns-then-not-asks g c es = let q = kind_back c.args.kind in grind (arith, nat_tests)
+pub returns-then-ne : goal.returns-then-ne
+returns-then-ne g c =
+    let r = c.args.self.now in
+    let P = policy_of g.P.Policy.CODE g.P.Policy.share in
+    let m = message_says c.args.letter.now in
+    let n = ap (λ x. x.number) c.row-known.ensures in
+    unknown P (site r) (view r) m c.if-head-own.false (sym c.governs.ensures ∙ c.if-not-governs.false)
+    (sym c.contains.ensures ∙ c.if-not-contains.false) c.if-head-own-2.false c.if-head-own-3.false c.if-head-own-4.false
+    (omega arith) (asks_now c.args.letter.now.kind ∙ not-true _ (sym c.ne.ensures ∙ c.if-ne.true))
 
 pub returns-then-engaged : goal.returns-then-engaged
-unfolding take pick newer
-returns-then-engaged g c es = let q = kind_back c.args.kind in grind (arith, nat_tests)
+returns-then-engaged g c =
+    let r = c.args.self.now in
+    let P = policy_of g.P.Policy.CODE g.P.Policy.share in
+    let m = message_says c.args.letter.now in
+    let n = ap (λ x. x.number) c.row-known.ensures in
+    engaged_already P (site r) (view r) m c.if-head-own.false (sym c.governs.ensures ∙ c.if-not-governs.false)
+    (sym c.contains.ensures ∙ c.if-not-contains.false) c.if-head-own-2.false c.if-head-own-3.false c.if-head-own-4.false
+    (omega arith) (asks_now c.args.letter.now.kind ∙ not-false _ (sym c.ne.ensures ∙ c.if-ne.false))
+    (sym c.engaged.ensures ∙ c.if-engaged.true)
 
-pub returns : goal.returns
-unfolding take pick newer
-returns g c es = let q = kind_back c.args.kind in grind (arith, nat_tests)
+pub returns-else-engaged : goal.returns-else-engaged
+returns-else-engaged g c =
+    let r = c.args.self.now in
+    let P = policy_of g.P.Policy.CODE g.P.Policy.share in
+    let m = message_says c.args.letter.now in
+    let n = ap (λ x. x.number) c.row-known.ensures in
+    admitted_new P (site r) (view r) m c.if-head-own.false (sym c.governs.ensures ∙ c.if-not-governs.false)
+    (sym c.contains.ensures ∙ c.if-not-contains.false) c.if-head-own-2.false c.if-head-own-3.false c.if-head-own-4.false
+    (omega arith) (asks_now c.args.letter.now.kind ∙ not-false _ (sym c.ne.ensures ∙ c.if-ne.false))
+    (sym c.engaged.ensures ∙ c.if-engaged.false)
+
+pub returns-else-known-head : goal.returns-else-known-head
+returns-else-known-head g c =
+    let r = c.args.self.now in
+    let P = policy_of g.P.Policy.CODE g.P.Policy.share in
+    let m = message_says c.args.letter.now in
+    let n = ap (λ x. x.number) c.row-known.ensures in
+    admitted P (site r) (view r) m c.if-head-own.false (sym c.governs.ensures ∙ c.if-not-governs.false)
+    (sym c.contains.ensures ∙ c.if-not-contains.false) c.if-head-own-2.false c.if-head-own-3.false c.if-head-own-4.false
+    (omega arith) (omega arith)

@@ -1,32 +1,29 @@
-use Rattle.std.proofs.Common.{refl, ap, ◌∙◌, arith, length-set}
+use Rattle.std.proofs.Common.{refl, ap, ◌∙◌, arith, rules}
+use Rattle.std.proofs.lemmas.List.{take_all}
 use Rattle.entries.specs.Sets.{add}
-use Rattle.book.specs.Fields.{rows_of}
-use Rattle.book.specs.View.{site}
-use Rattle.book.proofs.Kept.{row_set, written_kept}
+use Rattle.book.specs.View.{site, view}
+use Rattle.book.proofs.Kept.{changed_low, written_kept}
 use Rattle.book.proofs.Written.{state_is}
 use Rattle.book.proofs.record.Record.bind.Goals as goal
 
-pub invariant_of-self-clause-room : goal.invariant_of-self-clause-room
-invariant_of-self-clause-room c =
+pub stand-requires : goal.stand-requires
+stand-requires c =
     let r = c.args.self.now in
-    (length-set _ _ _ ∙ r.room.0, c.requires.placed.0, r.room.2, c.requires.placed.1, omega arith)
+    changed_low (site r) (view r).rows c.args.leader _ _ refl (omega arith) c.requires.lawful
+
+pub with-self-requires : goal.with-self-requires
+with-self-requires c =
+    let r = c.args.self.now in
+    changed_low (site r) (view r).rows c.args.leader _ _ refl (omega arith) c.requires.lawful
 
 pub invariant_of-self-clause-kept : goal.invariant_of-self-clause-kept
-unfolding rows_of
 invariant_of-self-clause-kept c =
-    let r = c.args.self.now in
-    let l = c.args.leader in
-    let h = c.with-self.ensures ∙ ap (λ m. add m l) c.mark.ensures in
-    written_kept (site r) _ _ (state_is _ _ _ (row_set r.rows.of l _ (omega arith)) refl h refl refl)
-    c.requires.lawful
+    let l = c.of-self.ensures ∙ take_all _ _ c.requires.few in
+    let h = c.with-self.ensures ∙ ap (λ m. add m c.args.leader) c.mark.ensures in
+    written_kept (site c.args.self.now) _ _ (state_is _ _ _ c.stand.ensures l h (search rules) refl) c.requires.lawful
 
 pub returns : goal.returns
-unfolding rows_of
 returns c =
-    let r = c.args.self.now in
-    let l = c.args.leader in
-    let h = c.with-self.ensures ∙ ap (λ m. add m l) c.mark.ensures in
-    record {
-      state = state_is _ _ _ (row_set r.rows.of l _ (omega arith)) refl h refl refl;
-      same = refl;
-    }
+    let l = c.of-self.ensures ∙ take_all _ _ c.requires.few in
+    let h = c.with-self.ensures ∙ ap (λ m. add m c.args.leader) c.mark.ensures in
+    record { state = state_is _ _ _ c.stand.ensures l h (search rules) refl; same = refl }

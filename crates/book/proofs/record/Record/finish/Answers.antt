@@ -1,36 +1,18 @@
-use Rattle.std.proofs.Common.{refl, ◌∙◌, arith, length-set}
-use Rattle.book.specs.Fields.{rows_of}
+use Rattle.std.proofs.Common.{refl, arith}
 use Rattle.book.specs.View.{site}
-use Rattle.book.proofs.Kept.{row_set, bounds_of, written_kept}
+use Rattle.book.proofs.Kept.{bounds_of, written_kept}
 use Rattle.book.proofs.Written.{state_is}
 use Rattle.book.proofs.record.Record.finish.Goals as goal
 
 pub overflow_add-self : goal.overflow_add-self
 overflow_add-self c =
-    let r = c.args.self.now in
-    let b = (bounds_of (site r) _ c.requires.lawful).1.0 in
+    let b = (bounds_of (site c.args.self.now) _ c.requires.lawful).1.0 in
     omega arith
 
-pub invariant_of-self-clause-room : goal.invariant_of-self-clause-room
-invariant_of-self-clause-room c =
-    let r = c.args.self.now in
-    (length-set _ _ _ ∙ r.room.0, r.room.1, r.room.2, omega arith, omega arith)
-
 pub invariant_of-self-clause-kept : goal.invariant_of-self-clause-kept
-unfolding rows_of
 invariant_of-self-clause-kept c =
-    let r = c.args.self.now in
-    written_kept (site r) _ _
-    (state_is _ _ _ (row_set r.rows.of c.args.leader _ (omega arith)) refl c.none-self.ensures refl
-    refl) c.requires.lawful
+    written_kept (site c.args.self.now) _ _ (state_is _ _ _ c.stand.ensures c.empty-self.ensures c.none-self.ensures c.empty-self-2.ensures refl)
+    c.requires.lawful
 
 pub returns : goal.returns
-unfolding rows_of
-returns c =
-    let r = c.args.self.now in
-    record {
-      state =
-          state_is _ _ _ (row_set r.rows.of c.args.leader _ (omega arith)) refl c.none-self.ensures refl
-          refl;
-      same = refl;
-    }
+returns c = record { state = state_is _ _ _ c.stand.ensures c.empty-self.ensures c.none-self.ensures c.empty-self-2.ensures refl; same = refl }

@@ -1,28 +1,15 @@
-use Rattle.std.proofs.Common.{refl, ◌∙◌, arith, length-set}
-use Rattle.book.specs.Fields.{rows_of}
-use Rattle.book.specs.View.{site}
-use Rattle.book.proofs.Kept.{row_set, written_kept}
+use Rattle.std.proofs.Common.{refl, arith}
+use Rattle.book.specs.View.{site, view}
+use Rattle.book.proofs.Kept.{changed_low, written_kept}
 use Rattle.book.proofs.Written.{state_is}
 use Rattle.book.proofs.record.Record.join.Goals as goal
 
-pub invariant_of-self-clause-room : goal.invariant_of-self-clause-room
-invariant_of-self-clause-room c =
-    let r = c.args.self.now in
-    (length-set _ _ _ ∙ r.room.0, r.room.1, r.room.2, r.room.3, r.room.4)
+pub put-requires : goal.put-requires
+put-requires c = changed_low (site c.args.self.now) (view c.args.self.now).rows c.args.leader _ _ refl (omega arith) c.requires
 
 pub invariant_of-self-clause-kept : goal.invariant_of-self-clause-kept
-unfolding rows_of
 invariant_of-self-clause-kept c =
-    let r = c.args.self.now in
-    written_kept (site r) _ _
-    (state_is _ _ _ (row_set r.rows.of c.args.leader _ (omega arith)) refl refl refl refl)
-    c.requires.lawful
+    written_kept (site c.args.self.now) _ _ (state_is _ _ _ c.put.ensures refl refl refl refl) c.requires
 
 pub returns : goal.returns
-unfolding rows_of
-returns c =
-    let r = c.args.self.now in
-    record {
-      state = state_is _ _ _ (row_set r.rows.of c.args.leader _ (omega arith)) refl refl refl refl;
-      same = refl;
-    }
+returns c = record { state = state_is _ _ _ c.put.ensures refl refl refl refl; same = refl }

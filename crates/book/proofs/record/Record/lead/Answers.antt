@@ -1,24 +1,31 @@
-use Rattle.std.proofs.Common.{◌+◌, [], ◌∷◌, get_or, sym, refl, ap, ◌∙◌, arith, length-set}
+use Rattle.std.proofs.Common.{◌≡◌, ℕ, ◌+◌, List, [], ◌∷◌, take, sym, refl, ap, ◌∙◌, arith}
+use Rattle.std.proofs.lemmas.List.{take_all}
 use Rattle.std.proofs.lemmas.Bool.Decides.{nat_tests}
+use Rattle.entries.specs.declared.lists.Entry.{Entry}
+use Rattle.entries.specs.Limits.{max_depots}
 use Rattle.entries.proofs.Width.{as_many_marks}
 use Rattle.letters.specs.declared.letter.Kind.TheVariants as kinds
-use Rattle.protocol.specs.State.{pick}
+use Rattle.protocol.specs.State.{upd, pick, Row}
 use Rattle.protocol.specs.Outcome.{after, sends}
-use Rattle.protocol.specs.Own.{lead}
+use Rattle.protocol.specs.Own.{led, lead}
 use Rattle.book.specs.declared.record.Record.{Record}
-use Rattle.book.specs.declared.parts.Row as parts
-use Rattle.protocol.specs.declared.standing.Standing.TheVariants.{Offered}
-use Rattle.book.specs.Fields.{rows_of, blank_row}
-use Rattle.book.specs.View.{site, view}
-use Rattle.book.proofs.Kept.{row_set, kept, own_calls, number_high}
+use Rattle.book.specs.View.{site, view, own_entry}
+use Rattle.book.proofs.Kept.{kept, own_calls, number_high}
 use Rattle.book.proofs.Answering.{call_refused, call_served}
 use Rattle.book.proofs.Mailing.{fine, mail_is, posted_as}
-use Rattle.book.proofs.Written.{state_is, one_entry}
+use Rattle.book.proofs.Written.{make, state_is}
 use Rattle.book.proofs.Outcomes.{leads}
 use Rattle.book.proofs.record.Record.lead.Goals as goal
 
-next : Record → parts.Row
-next r = record { number = (get_or r.rows.of r.identity.depot blank_row).number + 1; standing = Offered }
+-- the record as it is written
+led_now : (r : Record) {rows : ℕ → Row} {gathered : List Entry} {n : ℕ} {e : Entry}
+    → rows ≡ upd (view r).rows r.identity.depot (record { number = n + 1; standing = 1 })
+    → n ≡ ((view r).rows r.identity.depot).number → gathered ≡ take max_depots (e ∷ []) → e ≡ own_entry r
+    → make r.shelf r.tray r.wish rows (view r).list (view r).heard gathered (view r).owing ≡ led (site r) (view r)
+led_now r {n = n} {e = e} is same took own =
+    state_is r.shelf r.tray r.wish
+    (is ∙ ap (λ k. upd (view r).rows r.identity.depot (record { number = k + 1; standing = 1 })) same) refl refl
+    (took ∙ take_all max_depots (e ∷ []) (omega (arith, as_many_marks)) ∙ ap (λ x. x ∷ []) own) refl
 
 pub returns-then-engaged : goal.returns-then-engaged
 unfolding lead pick
@@ -37,67 +44,42 @@ unfolding lead pick
 returns-then-self-gt-MAX_POOL c = call_refused (grind (arith, nat_tests))
 
 pub returns-then-number : goal.returns-then-number
-unfolding lead pick rows_of
-returns-then-number c = call_refused (grind (arith, nat_tests))
+unfolding lead pick
+returns-then-number c = let n = ap (λ x. x.number) c.row-number.ensures in call_refused (grind (arith, nat_tests))
 
-pub overflow_add-self : goal.overflow_add-self
-unfolding rows_of
-overflow_add-self c =
+pub overflow_add-row : goal.overflow_add-row
+overflow_add-row c =
     let r = c.args.self.now in
+    let n = ap (λ x. x.number) c.row-number.ensures in
     let h = number_high (site r) (view r) r.identity.depot r.kept in
     omega arith
 
-pub invariant_of-self-clause-room : goal.invariant_of-self-clause-room
-invariant_of-self-clause-room c =
-    let r = c.args.self.now in
-    (length-set _ _ _ ∙ r.room.0, r.room.1, length-set _ _ _ ∙ r.room.2, r.room.3, omega (arith, as_many_marks))
-
 pub invariant_of-self-clause-kept : goal.invariant_of-self-clause-kept
-unfolding rows_of next
 invariant_of-self-clause-kept c =
     let r = c.args.self.now in
+    let n = ap (λ x. x.number) c.row-number.ensures in
     let q = leads (site r) (view r) (sym c.engaged.ensures ∙ c.if-engaged.false)
     (sym c.is_empty.ensures ∙ c.if-not-is_empty.false) (λ e. omega arith) (omega arith) (λ e. omega arith) in
-    let e = state_is r.shelf r.tray r.wish
-    (row_set r.rows.of r.identity.depot (next r) (omega arith)) (refl {a = (view r).list})
-    (refl {a = (view r).heard})
-    (one_entry r.gathered.items c.own_entry-own.result (omega (arith, as_many_marks))
-    ∙ ap (λ x. x ∷ []) c.own_entry-own.ensures)
-    (refl {a = (view r).owing}) in
+    let e = led_now r c.put.ensures n c.of-self.ensures c.own_entry-own.ensures in
     kept (site r) (view r) _ (lead (site r) (view r)) (λ law. (own_calls (site r) (view r) law).lead)
     (e ∙ sym (ap (after (view r)) q)) r.kept
 
 pub say-requires : goal.say-requires
-unfolding rows_of next
 say-requires c =
     let r = c.args.self.now in
+    let n = ap (λ x. x.number) c.row-number.ensures in
     let q = leads (site r) (view r) (sym c.engaged.ensures ∙ c.if-engaged.false)
     (sym c.is_empty.ensures ∙ c.if-not-is_empty.false) (λ e. omega arith) (omega arith) (λ e. omega arith) in
-    let e = state_is r.shelf r.tray r.wish
-    (row_set r.rows.of r.identity.depot (next r) (omega arith)) (refl {a = (view r).list})
-    (refl {a = (view r).heard})
-    (one_entry r.gathered.items c.own_entry-own.result (omega (arith, as_many_marks))
-    ∙ ap (λ x. x ∷ []) c.own_entry-own.ensures)
-    (refl {a = (view r).owing}) in
-    record {
-      low = omega arith;
-      fine = fine (site r) (view r) (lead (site r) (view r)) _ (λ law. (own_calls (site r) (view r) law).lead)
-          (ap sends q ∙ sym (mail_is kinds.Ask r.identity.depot [] (refl {a = site r}) e c.rest-to.ensures))
-          r.kept;
-    }
+    let e = led_now r c.put.ensures n c.of-self.ensures c.own_entry-own.ensures in
+    fine (site r) (view r) (lead (site r) (view r)) _ (λ law. (own_calls (site r) (view r) law).lead)
+    (ap sends q ∙ sym (mail_is kinds.Ask r.identity.depot [] (refl {a = site r}) e c.rest-to.ensures)) r.kept
 
 pub returns : goal.returns
-unfolding rows_of next
 returns c =
     let r = c.args.self.now in
+    let n = ap (λ x. x.number) c.row-number.ensures in
     let q = leads (site r) (view r) (sym c.engaged.ensures ∙ c.if-engaged.false)
     (sym c.is_empty.ensures ∙ c.if-not-is_empty.false) (λ e. omega arith) (omega arith) (λ e. omega arith) in
-    let e = state_is r.shelf r.tray r.wish
-    (row_set r.rows.of r.identity.depot (next r) (omega arith)) (refl {a = (view r).list})
-    (refl {a = (view r).heard})
-    (one_entry r.gathered.items c.own_entry-own.result (omega (arith, as_many_marks))
-    ∙ ap (λ x. x ∷ []) c.own_entry-own.ensures)
-    (refl {a = (view r).owing}) in
+    let e = led_now r c.put.ensures n c.of-self.ensures c.own_entry-own.ensures in
     call_served q e refl
-    (posted_as _ _ _ (mail_is kinds.Ask r.identity.depot [] (refl {a = site r}) e c.rest-to.ensures)
-    c.say.ensures)
+    (posted_as _ _ _ (mail_is kinds.Ask r.identity.depot [] (refl {a = site r}) e c.rest-to.ensures) c.say.ensures)

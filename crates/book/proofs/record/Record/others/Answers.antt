@@ -11,7 +11,7 @@ pub names_of-requires : goal.names_of-requires
 names_of-requires c =
     let r = c.args.self.now in
     subst (λ es. AllByRecursion (λ e. e.depot < max_depots) es) (sym c.as_slice.ensures.list)
-    (list_depots (site r) (view r) c.args.leader c.requires r.kept)
+    (list_depots (site r) (view r) r.kept)
 
 pub returns : goal.returns
 returns c =

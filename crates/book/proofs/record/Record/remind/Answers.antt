@@ -16,72 +16,70 @@ use Rattle.book.proofs.record.Record.remind.Goals as goal
 pub names_of-requires : goal.names_of-requires
 names_of-requires c =
     let r = c.args.self.now in
-    subst (λ es. AllByRecursion (λ e. e.depot < max_depots) es) (sym c.as_slice.ensures.list)
-    (gathered_depots (site r) (view r) (omega arith) r.kept)
+    subst (λ es. AllByRecursion (λ e. e.depot < max_depots) es) (sym c.as_slice-gathered.ensures.list)
+    (gathered_depots (site r) (view r) r.kept)
 
 pub again-requires : goal.again-requires
 again-requires c =
     let r = c.args.self.now in
-    let named = c.names_of.ensures ∙ ap names c.as_slice.ensures.list in
+    let named = c.names_of.ensures ∙ ap names c.as_slice-gathered.ensures.list in
     let to = c.minus.ensures ∙ ap₂ less c.rest.ensures named in
     again_fine (site r) (view r) kinds.Ask _ []
     (remind_gathering (site r) (view r) (omega arith) ∙ ap (λ x. again (site r) (view r) kinds.Ask x []) (sym to))
     r.kept
 
-pub returns-in-1 : goal.returns-in-1
-returns-in-1 c =
+pub returns-in-Offered : goal.returns-in-Offered
+returns-in-Offered c =
     let r = c.args.self.now in
-    let named = c.names_of.ensures ∙ ap names c.as_slice.ensures.list in
+    let named = c.names_of.ensures ∙ ap names c.as_slice-gathered.ensures.list in
     let to = c.minus.ensures ∙ ap₂ less c.rest.ensures named in
     reminded kinds.Ask _ []
     (remind_gathering (site r) (view r) (omega arith) ∙ ap (λ x. again (site r) (view r) kinds.Ask x []) (sym to))
     c.again.ensures
 
-pub names_of-requires-in-2 : goal.names_of-requires-in-2
-names_of-requires-in-2 c =
+pub names_of-requires-in-Accepted : goal.names_of-requires-in-Accepted
+names_of-requires-in-Accepted c =
     let r = c.args.self.now in
-    subst (λ es. AllByRecursion (λ e. e.depot < max_depots) es) (sym c.as_slice-in-2.ensures.list)
-    (list_depots (site r) (view r) r.identity.depot (omega arith) r.kept)
+    subst (λ es. AllByRecursion (λ e. e.depot < max_depots) es) (sym c.as_slice-list.ensures.list)
+    (list_depots (site r) (view r) r.kept)
 
-pub list_again-requires : goal.list_again-requires
-list_again-requires c =
+pub again-requires-in-Accepted : goal.again-requires-in-Accepted
+again-requires-in-Accepted c =
     let r = c.args.self.now in
-    let named = c.names_of-in-2.ensures ∙ ap names c.as_slice-in-2.ensures.list in
-    let to = c.minus-in-2.ensures ∙ ap (λ x. less x r.heard.0) named in
-    again_fine (site r) (view r) kinds.List _ (view r).list
-    (remind_bound (site r) (view r) (omega arith)
-    ∙ ap (λ x. again (site r) (view r) kinds.List x (view r).list) (sym to))
+    let list = c.as_slice-list.ensures.list in
+    let to = c.minus-in-Accepted.ensures ∙ ap (λ x. less x r.heard.0) (c.names_of-in-Accepted.ensures ∙ ap names list) in
+    again_fine (site r) (view r) kinds.List _ _
+    (remind_bound (site r) (view r) (omega arith) ∙ ap₂ (again (site r) (view r) kinds.List) (sym to) (sym list))
     r.kept
 
-pub returns-in-2 : goal.returns-in-2
-returns-in-2 c =
+pub returns-in-Accepted : goal.returns-in-Accepted
+returns-in-Accepted c =
     let r = c.args.self.now in
-    let named = c.names_of-in-2.ensures ∙ ap names c.as_slice-in-2.ensures.list in
-    let to = c.minus-in-2.ensures ∙ ap (λ x. less x r.heard.0) named in
-    reminded kinds.List _ (view r).list
-    (remind_bound (site r) (view r) (omega arith)
-    ∙ ap (λ x. again (site r) (view r) kinds.List x (view r).list) (sym to))
-    c.list_again.ensures
+    let list = c.as_slice-list.ensures.list in
+    let to = c.minus-in-Accepted.ensures ∙ ap (λ x. less x r.heard.0) (c.names_of-in-Accepted.ensures ∙ ap names list) in
+    reminded kinds.List _ _
+    (remind_bound (site r) (view r) (omega arith) ∙ ap₂ (again (site r) (view r) kinds.List) (sym to) (sym list))
+    c.again-in-Accepted.ensures
 
-pub again-requires-in-4 : goal.again-requires-in-4
-again-requires-in-4 c =
+pub again-requires-in-Settled : goal.again-requires-in-Settled
+again-requires-in-Settled c =
     let r = c.args.self.now in
     again_fine (site r) (view r) kinds.Settle _ [] (remind_settled (site r) (view r) (omega arith)) r.kept
 
-pub returns-in-4 : goal.returns-in-4
-returns-in-4 c =
+pub returns-in-Settled : goal.returns-in-Settled
+returns-in-Settled c =
     let r = c.args.self.now in
-    reminded kinds.Settle _ [] (remind_settled (site r) (view r) (omega arith)) c.again-in-4.ensures
+    reminded kinds.Settle _ [] (remind_settled (site r) (view r) (omega arith)) c.again-in-Settled.ensures
 
-pub again-requires-in-5 : goal.again-requires-in-5
-again-requires-in-5 c =
+pub again-requires-in-Dropped : goal.again-requires-in-Dropped
+again-requires-in-Dropped c =
     let r = c.args.self.now in
     again_fine (site r) (view r) kinds.Drop _ [] (remind_dropped (site r) (view r) (omega arith)) r.kept
 
-pub returns-in-5 : goal.returns-in-5
-returns-in-5 c =
+pub returns-in-Dropped : goal.returns-in-Dropped
+returns-in-Dropped c =
     let r = c.args.self.now in
-    reminded kinds.Drop _ [] (remind_dropped (site r) (view r) (omega arith)) c.again-in-5.ensures
+    reminded kinds.Drop _ [] (remind_dropped (site r) (view r) (omega arith)) c.again-in-Dropped.ensures
 
 pub returns-in_default : goal.returns-in_default
 unfolding remind pick

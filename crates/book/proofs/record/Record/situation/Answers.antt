@@ -1,8 +1,11 @@
-use Rattle.std.proofs.Common.{◌≡◌, Bool, ap, ◌∙◌}
+use Rattle.std.proofs.Common.{◌≡◌, ◌<◌, Bool, sym, ap, ◌∙◌, subst}
+use Rattle.std.specs.List.{AllByRecursion}
+use Rattle.entries.specs.Limits.{max_depots}
 use Rattle.entries.specs.Lists.{on}
 use Rattle.protocol.specs.declared.step.Situation.{Situation}
 use Rattle.protocol.specs.Steps.{acceptable_list, fits_gathered}
 use Rattle.book.specs.View.{site, view}
+use Rattle.book.proofs.Carrying.{entries_low}
 use Rattle.book.proofs.record.Record.situation.Goals as goal
 
 -- a situation from its five answers
@@ -13,12 +16,17 @@ told p q x y z =
 same_told : (p q : Bool) {x x' y y' z z' : Bool} → x ≡ x' → y ≡ y' → z ≡ z' → told p q x y z ≡ told p q x' y' z'
 same_told p q e f g = cc
 
+pub can_accept-requires : goal.can_accept-requires
+can_accept-requires c =
+    subst (λ es. AllByRecursion (λ e. e.depot < max_depots) es) (sym c.as_slice-entries.ensures.list)
+    (entries_low c.args.letter.now)
+
 pub returns : goal.returns
 unfolding told
 returns c =
     let r = c.args.self.now in
-    let h = c.args.head in
-    let l = c.as_slice-list.ensures.list in
+    let h = c.args.letter.now.head in
+    let l = c.as_slice-entries.ensures.list in
     same_told _ _ (c.on_list.ensures ∙ ap (λ es. on es h.sender) c.as_slice.ensures.list)
     (c.can_accept.ensures h.sender h.number
     ∙ ap (acceptable_list (site r) (view r) h.leader h.sender h.number) l)

@@ -5,37 +5,38 @@ use Rattle.protocol.specs.Outcome.{sends}
 use Rattle.protocol.specs.Own.{withdraw}
 use Rattle.book.specs.View.{site, view}
 use Rattle.book.proofs.Kept.{own_calls}
+use Rattle.protocol.specs.declared.standing.Standing.TheVariants.{Offered}
+use Rattle.book.proofs.Standings.{stands_still, stands_elsewhere}
 use Rattle.book.proofs.Answering.{call_refused, call_served}
 use Rattle.book.proofs.Mailing.{fine, mail_is, posted_as}
 use Rattle.book.proofs.Outcomes.{withdraw_refuses, withdraw_leading, withdraw_following}
 use Rattle.book.proofs.record.Record.withdraw.Goals as goal
 
-pub returns-then-stands-ne1 : goal.returns-then-stands-ne1
-returns-then-stands-ne1 c =
+pub returns-then-ne : goal.returns-then-ne
+returns-then-ne c =
     let r = c.args.self.now in
-    call_refused (withdraw_refuses (site r) (view r) c.leader-leader.result c.leader-leader.ensures.value
-    (λ e. omega arith))
+    call_refused (withdraw_refuses (site r) (view r) c.leader-leader.result c.leader-leader.ensures
+    (stands_elsewhere _ Offered c.standing.ensures (sym c.ne.ensures ∙ c.if-ne.true)))
 
 pub say-requires : goal.say-requires
 say-requires c =
     let r = c.args.self.now in
     let l = c.leader-leader.result in
     let d : l ≡ (site r).depot = c.if-leader-self.true ∙ ap (λ a. a.depot) c.end.ensures.same in
-    let q = withdraw_leading (site r) (view r) l c.leader-leader.ensures.value (omega arith) d in
+    let q = withdraw_leading (site r) (view r) l c.leader-leader.ensures
+    (stands_still _ Offered c.standing.ensures (sym c.ne.ensures ∙ c.if-ne.false)) d in
     let e = mail_is kinds.Drop l [] c.end.ensures.same c.end.ensures.state
     (c.rest-to.ensures ∙ ap rest c.end.ensures.same) in
-    record {
-      low = c.leader-leader.ensures.low;
-      fine = fine (site r) (view r) (withdraw (site r) (view r)) _ (λ law. (own_calls (site r) (view r) law).withdraw)
-          (ap sends q ∙ sym e) r.kept;
-    }
+    fine (site r) (view r) (withdraw (site r) (view r)) _ (λ law. (own_calls (site r) (view r) law).withdraw)
+    (ap sends q ∙ sym e) r.kept
 
 pub returns-then-leader-self : goal.returns-then-leader-self
 returns-then-leader-self c =
     let r = c.args.self.now in
     let l = c.leader-leader.result in
     let d : l ≡ (site r).depot = c.if-leader-self.true ∙ ap (λ a. a.depot) c.end.ensures.same in
-    let q = withdraw_leading (site r) (view r) l c.leader-leader.ensures.value (omega arith) d in
+    let q = withdraw_leading (site r) (view r) l c.leader-leader.ensures
+    (stands_still _ Offered c.standing.ensures (sym c.ne.ensures ∙ c.if-ne.false)) d in
     let e = mail_is kinds.Drop l [] c.end.ensures.same c.end.ensures.state
     (c.rest-to.ensures ∙ ap rest c.end.ensures.same) in
     call_served q c.end.ensures.state c.end.ensures.same (posted_as _ _ _ e c.say.ensures)
@@ -45,19 +46,18 @@ say-requires-2 c =
     let r = c.args.self.now in
     let l = c.leader-leader.result in
     let d : l ≡ (site r).depot → ⊥ = λ x. (let y = ap (λ a. a.depot) c.end.ensures.same in omega arith) in
-    let q = withdraw_following (site r) (view r) l c.leader-leader.ensures.value (omega arith) d in
+    let q = withdraw_following (site r) (view r) l c.leader-leader.ensures
+    (stands_still _ Offered c.standing.ensures (sym c.ne.ensures ∙ c.if-ne.false)) d in
     let e = mail_is kinds.No l [] c.end.ensures.same c.end.ensures.state c.mark.ensures in
-    record {
-      low = c.leader-leader.ensures.low;
-      fine = fine (site r) (view r) (withdraw (site r) (view r)) _ (λ law. (own_calls (site r) (view r) law).withdraw)
-          (ap sends q ∙ sym e) r.kept;
-    }
+    fine (site r) (view r) (withdraw (site r) (view r)) _ (λ law. (own_calls (site r) (view r) law).withdraw)
+    (ap sends q ∙ sym e) r.kept
 
 pub returns : goal.returns
 returns c =
     let r = c.args.self.now in
     let l = c.leader-leader.result in
     let d : l ≡ (site r).depot → ⊥ = λ x. (let y = ap (λ a. a.depot) c.end.ensures.same in omega arith) in
-    let q = withdraw_following (site r) (view r) l c.leader-leader.ensures.value (omega arith) d in
+    let q = withdraw_following (site r) (view r) l c.leader-leader.ensures
+    (stands_still _ Offered c.standing.ensures (sym c.ne.ensures ∙ c.if-ne.false)) d in
     let e = mail_is kinds.No l [] c.end.ensures.same c.end.ensures.state c.mark.ensures in
     call_served q c.end.ensures.state c.end.ensures.same (posted_as _ _ _ e c.say-2.ensures)

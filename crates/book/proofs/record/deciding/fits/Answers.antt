@@ -1,16 +1,24 @@
-use Rattle.std.proofs.Common.{arith}
-use Rattle.std.proofs.lemmas.Bool.Decides.{nat_tests}
+use Rattle.std.proofs.Common.{◌≡◌, Bool, true, false, ◌&&◌, eqb, refl, if◌then◌else◌, Some, None, ap, ◌∙◌}
+use Rattle.std.specs.Option.{option_eq}
+use Rattle.std.proofs.lemmas.Bool.{eq-eqb}
+use Rattle.entries.specs.declared.lists.Entry.{Entry}
+use Rattle.entries.specs.Lists.{on, entry_of}
+use Rattle.entries.specs.contracts.lists.EntryPartialEq.TheImpl.{eq-value as entry_eq}
+use Rattle.entries.proofs.Lookup.{entry_depot}
 use Rattle.protocol.specs.State.{fits}
 use Rattle.book.proofs.record.deciding.fits.Goals as goal
 
-pub returns-then-entry-own : goal.returns-then-entry-own
-unfolding fits
-returns-then-entry-own c = grind (arith, nat_tests)
+-- an entry is the one on the list just where shelf and wish are, since its depot is
+looked_up : (b : Bool) (own e : Entry) → e.depot ≡ own.depot
+    → option_eq entry_eq.it (if b then Some e else None) (Some own)
+    ≡ (b && (eqb e.shelf own.shelf && eqb e.wish own.wish))
+looked_up true own e h = rw (eq-eqb e.depot own.depot h) refl
+looked_up false own e h = refl
 
-pub returns-else-entry-own : goal.returns-else-entry-own
+pub returns : goal.returns
 unfolding fits
-returns-else-entry-own c = grind (arith, nat_tests)
-
-pub returns-in-None : goal.returns-in-None
-unfolding fits
-returns-in-None c = grind (arith, nat_tests)
+returns c =
+    let own = c.args.own in
+    let es = c.args.list.now in
+    c.eq.ensures ∙ ap (λ e. option_eq entry_eq.it e (Some own)) c.entry_of.ensures
+    ∙ looked_up (on es own.depot) own (entry_of es own.depot) (entry_depot es own.depot)

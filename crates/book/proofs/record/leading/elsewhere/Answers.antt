@@ -1,28 +1,23 @@
-use Rattle.std.proofs.Common.{◌≡◌, length, drop, sym, ap, ◌∙◌, arith}
-use Rattle.std.proofs.lemmas.List.{at_drop_all}
-use Rattle.entries.specs.Lists.{blank}
+use Rattle.std.proofs.Common.{not, eqb, ◌∙◌, rules, tests, arith}
+use Rattle.std.proofs.lemmas.Iterator.{YieldsList-from_slice, YieldsList-from_map}
+use Rattle.std.proofs.lemmas.Iterator.Adapters.{fits_from_length, at_most_from_yields_List, at_most_from_Filter}
+use Rattle.std.proofs.lemmas.Iterator.Consumers.{YieldsList-at, YieldsList-from_filter, sum_by_from_yields_List}
 use Rattle.entries.proofs.Width.{as_many_marks}
-use Rattle.protocol.specs.Listing.{elsewhere}
-use Rattle.book.proofs.Listing.{elsewhere_more}
+use Rattle.book.proofs.Listing.{elsewhere_sum}
 use Rattle.book.proofs.record.leading.elsewhere.Goals as goal
 
-pub loop-i-init : goal.loop-i-init
-unfolding elsewhere
-loop-i-init c =
-    let es = c.args.list.now in
-    (sym (at_drop_all (λ xs. elsewhere c.args.depot xs) es (length es) (omega arith)), omega arith)
-
-pub loop-i-preserved : goal.loop-i-preserved
-loop-i-preserved c =
-    let e = elsewhere_more c.args.depot c.args.list.now c.loop-i.i blank (omega arith) (omega arith) in
-    let b = c.shelf_elsewhere-shelf.type_inv in
-    let f = c.shelf_elsewhere-shelf.ensures in
-    (omega arith, omega arith)
-
-pub overflow_add-sum : goal.overflow_add-sum
-overflow_add-sum c = let b = c.shelf_elsewhere-shelf.type_inv in omega (arith, as_many_marks)
+pub sum-requires-clause-fits : goal.sum-requires-clause-fits
+sum-requires-clause-fits c =
+    fits_from_length _ _ 16 _
+    (at_most_from_Filter _ (at_most_from_yields_List (YieldsList-from_slice c.args.list.now cc) (omega (arith, as_many_marks))))
+    c.map.ensures.closure (omega arith) (λ x r q k. search (rules, tests))
 
 pub returns : goal.returns
 returns c =
-    let e : c.loop-i.i ≡ 0 = omega arith in
-    c.loop-i.invariant.0 ∙ ap (λ k. elsewhere c.args.depot (drop k c.args.list.now)) e
+    sum_by_from_yields_List _ _ c.map.result _ c.sum.ensures.ran
+    (YieldsList-from_map _ (λ e. e.shelf)
+    (YieldsList-at c.map.ensures.source
+    (YieldsList-from_filter _ (λ e. not (eqb e.depot c.args.depot)) (YieldsList-from_slice c.args.list.now cc)
+    c.filter.ensures.closure (λ x r q k. search (rules, tests)))) c.map.ensures.closure
+    (λ x r q k. search (rules, tests)))
+    ∙ elsewhere_sum c.args.depot c.args.list.now
