@@ -1,7 +1,6 @@
 -- A policy of the code as a policy of the definitions.
-use Rattle.std.specs.Prelude.{ℕ, List}
-use Rattle.entries.specs.declared.lists.Entry.{Entry}
+use Rattle.policies.specs.declared.meaning.Policy.{Ghosts}
 use Rattle.protocol.specs.Policy.{Policy}
 
-abbrev pub policy_of : ℕ → (List Entry → List ℕ) → Policy
-policy_of code share = record { code = code; share = share }
+abbrev pub policy_of : {X : Type 0} → Ghosts X → Policy
+policy_of p = record { code = p.CODE; share = p.share }

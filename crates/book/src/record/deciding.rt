@@ -49,7 +49,7 @@ impl Record {
     /// or the depot itself as sender (30), a number below that in the leader's row (31), one above it unless the letter
     /// is an Ask (32), a new Ask while the depot is engaged (8).
     pub(crate) fn admit<P: Policy>(&self, letter: &Message) -> Result<(), Refusal>
-        ensures { Admitted (policy_of P.Policy.CODE P.Policy.share) (message_says letter.now) self.now result }
+        ensures { Admitted (policy_of P.Policy) (message_says letter.now) self.now result }
     {
         let own = self.identity;
         let head = letter.head;

@@ -91,7 +91,7 @@ impl Record {
     /// Refuses another policy than the record's (18), a depot that gathers nothing (16), others' shelves that together
     /// are below the wish (17).
     pub fn propose<P: Policy>(&mut self, out: &mut Message) -> Result<Option<Depots>, Refusal>
-        ensures { Called (propose (policy_of P.Policy.CODE P.Policy.share)) result self.old self.new
+        ensures { Called (propose (policy_of P.Policy)) result self.old self.new
             out.old out.new }
     {
         if !P::governs(self.identity.code) {

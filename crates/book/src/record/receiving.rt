@@ -59,9 +59,9 @@ impl Record {
     /// are all that the list has, it settles at once and sends Settle to the others.
     fn accept<P: Policy>(&mut self, letter: &Message, out: &mut Message) -> Option<Depots>
         requires listed { Listed letter.now.entries }
-        requires sound { Sound (stepped (policy_of P.Policy.CODE P.Policy.share) false (message_says letter.now)
+        requires sound { Sound (stepped (policy_of P.Policy) false (message_says letter.now)
             steps.Accept) self.old }
-        ensures { Called (stepped (policy_of P.Policy.CODE P.Policy.share) false (message_says letter.now)
+        ensures { Called (stepped (policy_of P.Policy) false (message_says letter.now)
             steps.Accept) (Ok result) self.old self.new out.old out.new }
     {
         let depot = self.identity.depot;
@@ -81,9 +81,9 @@ impl Record {
     /// others.
     fn hear<P: Policy>(&mut self, letter: &Message, out: &mut Message) -> Option<Depots>
         requires bound { ((view self.old).rows letter.now.head.leader).standing ≡ 2 }
-        requires sound { Sound (stepped (policy_of P.Policy.CODE P.Policy.share) false (message_says letter.now)
+        requires sound { Sound (stepped (policy_of P.Policy) false (message_says letter.now)
             steps.Hear) self.old }
-        ensures { Called (stepped (policy_of P.Policy.CODE P.Policy.share) false (message_says letter.now) steps.Hear)
+        ensures { Called (stepped (policy_of P.Policy) false (message_says letter.now) steps.Hear)
             (Ok result) self.old self.new out.old out.new }
     {
         let leader = letter.head.leader;
@@ -109,9 +109,9 @@ impl Record {
         out: &mut Message,
     ) -> Result<Option<Depots>, Refusal>
         requires grounds { StepGrounds (message_says letter.now) (view self.old) step }
-        requires sound { Sound (stepped (policy_of P.Policy.CODE P.Policy.share) strikes (message_says letter.now) step)
+        requires sound { Sound (stepped (policy_of P.Policy) strikes (message_says letter.now) step)
             self.old }
-        ensures { Called (stepped (policy_of P.Policy.CODE P.Policy.share) strikes (message_says letter.now) step)
+        ensures { Called (stepped (policy_of P.Policy) strikes (message_says letter.now) step)
             result self.old self.new out.old out.new }
     {
         let leader = letter.head.leader;
@@ -159,8 +159,8 @@ impl Record {
         letter: &Message,
         out: &mut Message,
     ) -> Result<Option<Depots>, Refusal>
-        requires { Sound (lined (policy_of P.Policy.CODE P.Policy.share) (message_says letter.now)) self.old }
-        ensures { Called (lined (policy_of P.Policy.CODE P.Policy.share) (message_says letter.now)) result self.old
+        requires { Sound (lined (policy_of P.Policy) (message_says letter.now)) self.old }
+        ensures { Called (lined (policy_of P.Policy) (message_says letter.now)) result self.old
             self.new out.old out.new }
     {
         let head = letter.head;
@@ -183,7 +183,7 @@ impl Record {
         out: &mut Message,
     ) -> Result<Option<Depots>, Refusal>
         requires { Lawful (letter_says letter) }
-        ensures { Called (λ a s. take (policy_of P.Policy.CODE P.Policy.share) a s (letter_says letter.entry)) result
+        ensures { Called (λ a s. take (policy_of P.Policy) a s (letter_says letter.entry)) result
             self.old self.new out.old out.new }
     {
         let letter = owned(letter);
@@ -202,7 +202,7 @@ impl Record {
         bytes: &[u8],
         out: &mut Message,
     ) -> Result<Option<Depots>, Fault<Refusal>>
-        ensures { Received (policy_of P.Policy.CODE P.Policy.share) bytes.now result self.old
+        ensures { Received (policy_of P.Policy) bytes.now result self.old
             self.new out.old out.new }
     {
         let letter = read(bytes)?;

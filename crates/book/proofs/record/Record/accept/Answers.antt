@@ -14,7 +14,7 @@ use Rattle.book.proofs.record.Record.accept.Goals as goal
 pub settle-requires : goal.settle-requires
 settle-requires g c =
     let r = c.args.self.now in
-    let P = policy_of g.P.Policy.CODE g.P.Policy.share in
+    let P = policy_of g.P.Policy in
     let m = message_says c.args.letter.now in
     let list = c.as_slice-list.ensures.list in
     let pair = c.with.ensures ∙ ap (λ s. add s m.leader) c.mark.ensures in
@@ -25,7 +25,7 @@ settle-requires g c =
 pub say-requires : goal.say-requires
 say-requires g c =
     let r = c.args.self.now in
-    let P = policy_of g.P.Policy.CODE g.P.Policy.share in
+    let P = policy_of g.P.Policy in
     let m = message_says c.args.letter.now in
     let list = c.as_slice-list.ensures.list in
     let pair = c.with.ensures ∙ ap (λ s. add s m.leader) c.mark.ensures in
@@ -38,7 +38,7 @@ say-requires g c =
 pub returns-then-has_all : goal.returns-then-has_all
 returns-then-has_all g c =
     let r = c.args.self.now in
-    let P = policy_of g.P.Policy.CODE g.P.Policy.share in
+    let P = policy_of g.P.Policy in
     let m = message_says c.args.letter.now in
     let list = c.as_slice-list.ensures.list in
     let pair = c.with.ensures ∙ ap (λ s. add s m.leader) c.mark.ensures in
@@ -51,7 +51,7 @@ returns-then-has_all g c =
 pub bind-requires-clause-lawful : goal.bind-requires-clause-lawful
 bind-requires-clause-lawful g c =
     let r = c.args.self.now in
-    let P = policy_of g.P.Policy.CODE g.P.Policy.share in
+    let P = policy_of g.P.Policy in
     let m = message_says c.args.letter.now in
     let list = c.as_slice-list.ensures.list in
     let pair = c.with.ensures ∙ ap (λ s. add s m.leader) c.mark.ensures in
@@ -64,7 +64,7 @@ mark-requires-2 g c = leader_low c.args.letter.now
 pub say-requires-2 : goal.say-requires-2
 say-requires-2 g c =
     let r = c.args.self.now in
-    let P = policy_of g.P.Policy.CODE g.P.Policy.share in
+    let P = policy_of g.P.Policy in
     let m = message_says c.args.letter.now in
     let list = c.as_slice-list.ensures.list in
     let pair = c.with.ensures ∙ ap (λ s. add s m.leader) c.mark.ensures in
@@ -75,7 +75,7 @@ say-requires-2 g c =
 pub returns : goal.returns
 returns g c =
     let r = c.args.self.now in
-    let P = policy_of g.P.Policy.CODE g.P.Policy.share in
+    let P = policy_of g.P.Policy in
     let m = message_says c.args.letter.now in
     let list = c.as_slice-list.ensures.list in
     let pair = c.with.ensures ∙ ap (λ s. add s m.leader) c.mark.ensures in

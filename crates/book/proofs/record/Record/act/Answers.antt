@@ -24,7 +24,7 @@ pub returns-in-Unlined : goal.returns-in-Unlined
 unfolding pick
 returns-in-Unlined g c =
     let r = c.args.self.now in
-    let P = policy_of g.P.Policy.CODE g.P.Policy.share in
+    let P = policy_of g.P.Policy in
     let m = message_says c.args.letter.now in
     call_served {s = view r} {m = none}
     (step_is P c.args.strikes m (site r) (view r) c.in-Unlined.is ∙ rw c.if-strikes.true refl) refl refl refl
@@ -33,35 +33,35 @@ pub returns-in-Unlined-2 : goal.returns-in-Unlined-2
 unfolding pick
 returns-in-Unlined-2 g c =
     let r = c.args.self.now in
-    let P = policy_of g.P.Policy.CODE g.P.Policy.share in
+    let P = policy_of g.P.Policy in
     let m = message_says c.args.letter.now in
     call_refused (step_is P c.args.strikes m (site r) (view r) c.in-Unlined-2.is ∙ rw c.if-strikes.false refl)
 
 pub join-requires : goal.join-requires
 join-requires g c =
     let r = c.args.self.now in
-    let P = policy_of g.P.Policy.CODE g.P.Policy.share in
+    let P = policy_of g.P.Policy in
     let m = message_says c.args.letter.now in
     law_after c.requires.sound (step_is P c.args.strikes m (site r) (view r) c.in-Join.is)
 
 pub offer-requires-clause-low : goal.offer-requires-clause-low
 offer-requires-clause-low g c =
     let r = c.args.self.now in
-    let P = policy_of g.P.Policy.CODE g.P.Policy.share in
+    let P = policy_of g.P.Policy in
     let m = message_says c.args.letter.now in
     leader_low c.args.letter.now
 
 pub offer-requires-in-OfferAgain-clause-low : goal.offer-requires-in-OfferAgain-clause-low
 offer-requires-in-OfferAgain-clause-low g c =
     let r = c.args.self.now in
-    let P = policy_of g.P.Policy.CODE g.P.Policy.share in
+    let P = policy_of g.P.Policy in
     let m = message_says c.args.letter.now in
     leader_low c.args.letter.now
 
 pub offer-requires-clause-fine : goal.offer-requires-clause-fine
 offer-requires-clause-fine g c =
     let r = c.args.self.now in
-    let P = policy_of g.P.Policy.CODE g.P.Policy.share in
+    let P = policy_of g.P.Policy in
     let m = message_says c.args.letter.now in
     let t = c.join.new.self in
     let same : own_entry t ≡ own_entry r = ap₂ own c.join.ensures.same c.join.ensures.state in
@@ -72,7 +72,7 @@ offer-requires-clause-fine g c =
 pub offer-requires-in-OfferAgain-clause-fine : goal.offer-requires-in-OfferAgain-clause-fine
 offer-requires-in-OfferAgain-clause-fine g c =
     let r = c.args.self.now in
-    let P = policy_of g.P.Policy.CODE g.P.Policy.share in
+    let P = policy_of g.P.Policy in
     let m = message_says c.args.letter.now in
     said_fine c.requires.sound kinds.Offer m.leader (own_entry r ∷ []) (step_is P c.args.strikes m (site r) (view r) c.in-OfferAgain.is) refl refl refl
 
@@ -87,7 +87,7 @@ gather-requires-clause-fits g c =
 pub gather-requires-clause-lawful : goal.gather-requires-clause-lawful
 gather-requires-clause-lawful g c =
     let r = c.args.self.now in
-    let P = policy_of g.P.Policy.CODE g.P.Policy.share in
+    let P = policy_of g.P.Policy in
     let m = message_says c.args.letter.now in
     let list = c.as_slice.ensures.list in
     let grounds = subst (StepGrounds m (view r)) c.in-Gather.is c.requires.grounds in
@@ -100,28 +100,28 @@ gather-requires-clause-lawful g c =
 pub accept-requires-clause-listed : goal.accept-requires-clause-listed
 accept-requires-clause-listed g c =
     let r = c.args.self.now in
-    let P = policy_of g.P.Policy.CODE g.P.Policy.share in
+    let P = policy_of g.P.Policy in
     let m = message_says c.args.letter.now in
     listed_known _ (subst (StepGrounds m (view r)) c.in-Accept.is c.requires.grounds)
 
 pub say-requires : goal.say-requires
 say-requires g c =
     let r = c.args.self.now in
-    let P = policy_of g.P.Policy.CODE g.P.Policy.share in
+    let P = policy_of g.P.Policy in
     let m = message_says c.args.letter.now in
     said_fine c.requires.sound c.in-Say.kind m.leader [] (step_is P c.args.strikes m (site r) (view r) c.in-Say.is) refl refl c.to_whom-to.ensures
 
 pub returns-in-Say : goal.returns-in-Say
 returns-in-Say g c =
     let r = c.args.self.now in
-    let P = policy_of g.P.Policy.CODE g.P.Policy.share in
+    let P = policy_of g.P.Policy in
     let m = message_says c.args.letter.now in
     step_said c.in-Say.kind m.leader [] (step_is P c.args.strikes m (site r) (view r) c.in-Say.is) refl refl c.to_whom-to.ensures c.say.ensures
 
 pub say-requires-in-Refuse : goal.say-requires-in-Refuse
 say-requires-in-Refuse g c =
     let r = c.args.self.now in
-    let P = policy_of g.P.Policy.CODE g.P.Policy.share in
+    let P = policy_of g.P.Policy in
     let m = message_says c.args.letter.now in
     said_fine c.requires.sound kinds.No m.leader [] (step_is P c.args.strikes m (site r) (view r) c.in-Refuse.is) c.end.ensures.same c.end.ensures.state
     c.to_whom-to-in-Refuse.ensures
@@ -129,7 +129,7 @@ say-requires-in-Refuse g c =
 pub returns-in-Refuse : goal.returns-in-Refuse
 returns-in-Refuse g c =
     let r = c.args.self.now in
-    let P = policy_of g.P.Policy.CODE g.P.Policy.share in
+    let P = policy_of g.P.Policy in
     let m = message_says c.args.letter.now in
     step_said kinds.No m.leader [] (step_is P c.args.strikes m (site r) (view r) c.in-Refuse.is) c.end.ensures.same c.end.ensures.state
     c.to_whom-to-in-Refuse.ensures c.say-in-Refuse.ensures
@@ -137,7 +137,7 @@ returns-in-Refuse g c =
 pub share_of-share-requires : goal.share_of-share-requires
 share_of-share-requires g c =
     let r = c.args.self.now in
-    let P = policy_of g.P.Policy.CODE g.P.Policy.share in
+    let P = policy_of g.P.Policy in
     let m = message_says c.args.letter.now in
     subst Listed (sym c.as_slice-in-Settle.ensures.list)
     (listed_now (site r) (view r) m.leader (subst (StepGrounds m (view r)) c.in-Settle.is c.requires.grounds) r.kept)
@@ -145,7 +145,7 @@ share_of-share-requires g c =
 pub settle-requires : goal.settle-requires
 settle-requires g c =
     let r = c.args.self.now in
-    let P = policy_of g.P.Policy.CODE g.P.Policy.share in
+    let P = policy_of g.P.Policy in
     let m = message_says c.args.letter.now in
     let share = c.share_of-share.ensures
     ∙ ap (λ es. share_of P.share es r.identity.depot) c.as_slice-in-Settle.ensures.list in
@@ -155,7 +155,7 @@ settle-requires g c =
 pub say-requires-in-Settle : goal.say-requires-in-Settle
 say-requires-in-Settle g c =
     let r = c.args.self.now in
-    let P = policy_of g.P.Policy.CODE g.P.Policy.share in
+    let P = policy_of g.P.Policy in
     let m = message_says c.args.letter.now in
     let share = c.share_of-share.ensures
     ∙ ap (λ es. share_of P.share es r.identity.depot) c.as_slice-in-Settle.ensures.list in
@@ -165,7 +165,7 @@ say-requires-in-Settle g c =
 pub returns-in-Settle : goal.returns-in-Settle
 returns-in-Settle g c =
     let r = c.args.self.now in
-    let P = policy_of g.P.Policy.CODE g.P.Policy.share in
+    let P = policy_of g.P.Policy in
     let m = message_says c.args.letter.now in
     let share = c.share_of-share.ensures
     ∙ ap (λ es. share_of P.share es r.identity.depot) c.as_slice-in-Settle.ensures.list in
@@ -176,7 +176,7 @@ returns-in-Settle g c =
 pub say-requires-in-Drop : goal.say-requires-in-Drop
 say-requires-in-Drop g c =
     let r = c.args.self.now in
-    let P = policy_of g.P.Policy.CODE g.P.Policy.share in
+    let P = policy_of g.P.Policy in
     let m = message_says c.args.letter.now in
     said_fine c.requires.sound c.in-Drop.kind m.leader [] (step_is P c.args.strikes m (site r) (view r) c.in-Drop.is) c.end-in-Drop.ensures.same
     c.end-in-Drop.ensures.state c.to_whom-to-in-Drop.ensures
@@ -184,7 +184,7 @@ say-requires-in-Drop g c =
 pub returns-in-Drop : goal.returns-in-Drop
 returns-in-Drop g c =
     let r = c.args.self.now in
-    let P = policy_of g.P.Policy.CODE g.P.Policy.share in
+    let P = policy_of g.P.Policy in
     let m = message_says c.args.letter.now in
     step_said c.in-Drop.kind m.leader [] (step_is P c.args.strikes m (site r) (view r) c.in-Drop.is) c.end-in-Drop.ensures.same
     c.end-in-Drop.ensures.state c.to_whom-to-in-Drop.ensures c.say-in-Drop.ensures

@@ -10,7 +10,7 @@ use Rattle.book.proofs.record.Record.admit.Goals.{then-head-own-via-then-head-ow
 pub returns-then-head-own : goal.returns-then-head-own
 returns-then-head-own g c =
     let r = c.args.self.now in
-    let P = policy_of g.P.Policy.CODE g.P.Policy.share in
+    let P = policy_of g.P.Policy in
     let m = message_says c.args.letter.now in
     elim c.then-head-own.branch [
       | then-head-own-via-then-head-own w ↦ other_code P (site r) (view r) m w.if-head-own.true
@@ -21,7 +21,7 @@ returns-then-head-own g c =
 pub returns-then-not-contains : goal.returns-then-not-contains
 returns-then-not-contains g c =
     let r = c.args.self.now in
-    let P = policy_of g.P.Policy.CODE g.P.Policy.share in
+    let P = policy_of g.P.Policy in
     let m = message_says c.args.letter.now in
     unaddressed P (site r) (view r) m c.if-head-own.false (sym c.governs.ensures ∙ c.if-not-governs.false)
     (sym c.contains.ensures ∙ c.if-not-contains.true)
@@ -29,7 +29,7 @@ returns-then-not-contains g c =
 pub returns-then-head-own-2 : goal.returns-then-head-own-2
 returns-then-head-own-2 g c =
     let r = c.args.self.now in
-    let P = policy_of g.P.Policy.CODE g.P.Policy.share in
+    let P = policy_of g.P.Policy in
     let m = message_says c.args.letter.now in
     no_sender P (site r) (view r) m c.if-head-own.false (sym c.governs.ensures ∙ c.if-not-governs.false)
     (sym c.contains.ensures ∙ c.if-not-contains.false) c.then-head-own-2.either
@@ -37,7 +37,7 @@ returns-then-head-own-2 g c =
 pub returns-then-head-known : goal.returns-then-head-known
 returns-then-head-known g c =
     let r = c.args.self.now in
-    let P = policy_of g.P.Policy.CODE g.P.Policy.share in
+    let P = policy_of g.P.Policy in
     let m = message_says c.args.letter.now in
     let n = ap (λ x. x.number) c.row-known.ensures in
     passed P (site r) (view r) m c.if-head-own.false (sym c.governs.ensures ∙ c.if-not-governs.false)
@@ -47,7 +47,7 @@ returns-then-head-known g c =
 pub returns-then-ne : goal.returns-then-ne
 returns-then-ne g c =
     let r = c.args.self.now in
-    let P = policy_of g.P.Policy.CODE g.P.Policy.share in
+    let P = policy_of g.P.Policy in
     let m = message_says c.args.letter.now in
     let n = ap (λ x. x.number) c.row-known.ensures in
     unknown P (site r) (view r) m c.if-head-own.false (sym c.governs.ensures ∙ c.if-not-governs.false)
@@ -57,7 +57,7 @@ returns-then-ne g c =
 pub returns-then-engaged : goal.returns-then-engaged
 returns-then-engaged g c =
     let r = c.args.self.now in
-    let P = policy_of g.P.Policy.CODE g.P.Policy.share in
+    let P = policy_of g.P.Policy in
     let m = message_says c.args.letter.now in
     let n = ap (λ x. x.number) c.row-known.ensures in
     engaged_already P (site r) (view r) m c.if-head-own.false (sym c.governs.ensures ∙ c.if-not-governs.false)
@@ -68,7 +68,7 @@ returns-then-engaged g c =
 pub returns-else-engaged : goal.returns-else-engaged
 returns-else-engaged g c =
     let r = c.args.self.now in
-    let P = policy_of g.P.Policy.CODE g.P.Policy.share in
+    let P = policy_of g.P.Policy in
     let m = message_says c.args.letter.now in
     let n = ap (λ x. x.number) c.row-known.ensures in
     admitted_new P (site r) (view r) m c.if-head-own.false (sym c.governs.ensures ∙ c.if-not-governs.false)
@@ -79,7 +79,7 @@ returns-else-engaged g c =
 pub returns-else-known-head : goal.returns-else-known-head
 returns-else-known-head g c =
     let r = c.args.self.now in
-    let P = policy_of g.P.Policy.CODE g.P.Policy.share in
+    let P = policy_of g.P.Policy in
     let m = message_says c.args.letter.now in
     let n = ap (λ x. x.number) c.row-known.ensures in
     admitted P (site r) (view r) m c.if-head-own.false (sym c.governs.ensures ∙ c.if-not-governs.false)

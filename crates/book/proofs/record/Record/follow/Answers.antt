@@ -19,7 +19,7 @@ act-requires-clause-sound g c =
     let r = c.args.self.now in
     let t = c.strike.new.self in
     let letter = c.args.letter.now in
-    let P = policy_of g.P.Policy.CODE g.P.Policy.share in
+    let P = policy_of g.P.Policy in
     let b : c.if-tells_end.strikes ≡ strikes (site r) (message_says letter) = elim c.if-tells_end.branch [
       | then-tells_end w ↦ strikes_is letter (site r) c.tells_end.ensures
           (w.strikes-is ∙ rw w.if-tells_end.true refl)
@@ -35,7 +35,7 @@ returns g c =
     let r = c.args.self.now in
     let t = c.strike.new.self in
     let letter = c.args.letter.now in
-    let P = policy_of g.P.Policy.CODE g.P.Policy.share in
+    let P = policy_of g.P.Policy in
     let b : c.if-tells_end.strikes ≡ strikes (site r) (message_says letter) = elim c.if-tells_end.branch [
       | then-tells_end w ↦ strikes_is letter (site r) c.tells_end.ensures
           (w.strikes-is ∙ rw w.if-tells_end.true refl)

@@ -36,7 +36,7 @@ share_of-share-requires g c =
 pub settle-requires : goal.settle-requires
 settle-requires g c =
     let r = c.args.self.now in
-    let P = policy_of g.P.Policy.CODE g.P.Policy.share in
+    let P = policy_of g.P.Policy in
     let m = message_says c.args.letter.now in
     let list = c.as_slice-list.ensures.list in
     let all = sym (c.has_all.ensures ∙ ap₂ (λ es s. every es (has s)) list c.with-heard.ensures) ∙ c.if-has_all.true in
@@ -46,7 +46,7 @@ settle-requires g c =
 pub say-requires : goal.say-requires
 say-requires g c =
     let r = c.args.self.now in
-    let P = policy_of g.P.Policy.CODE g.P.Policy.share in
+    let P = policy_of g.P.Policy in
     let m = message_says c.args.letter.now in
     let list = c.as_slice-list.ensures.list in
     let all = sym (c.has_all.ensures ∙ ap₂ (λ es s. every es (has s)) list c.with-heard.ensures) ∙ c.if-has_all.true in
@@ -57,7 +57,7 @@ say-requires g c =
 pub returns-then-has_all : goal.returns-then-has_all
 returns-then-has_all g c =
     let r = c.args.self.now in
-    let P = policy_of g.P.Policy.CODE g.P.Policy.share in
+    let P = policy_of g.P.Policy in
     let m = message_says c.args.letter.now in
     let list = c.as_slice-list.ensures.list in
     let all = sym (c.has_all.ensures ∙ ap₂ (λ es s. every es (has s)) list c.with-heard.ensures) ∙ c.if-has_all.true in
@@ -68,7 +68,7 @@ returns-then-has_all g c =
 pub note_heard-requires : goal.note_heard-requires
 note_heard-requires g c =
     let r = c.args.self.now in
-    let P = policy_of g.P.Policy.CODE g.P.Policy.share in
+    let P = policy_of g.P.Policy in
     let m = message_says c.args.letter.now in
     let list = c.as_slice-list.ensures.list in
     let wait = sym (c.has_all.ensures ∙ ap₂ (λ es s. every es (has s)) list c.with-heard.ensures) ∙ c.if-has_all.false in
@@ -78,7 +78,7 @@ note_heard-requires g c =
 pub returns : goal.returns
 returns g c =
     let r = c.args.self.now in
-    let P = policy_of g.P.Policy.CODE g.P.Policy.share in
+    let P = policy_of g.P.Policy in
     let m = message_says c.args.letter.now in
     let list = c.as_slice-list.ensures.list in
     let wait = sym (c.has_all.ensures ∙ ap₂ (λ es s. every es (has s)) list c.with-heard.ensures) ∙ c.if-has_all.false in

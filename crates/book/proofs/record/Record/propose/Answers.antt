@@ -41,7 +41,7 @@ propose_gathered-requires g c =
 pub returns : goal.returns
 returns g c =
     let r = c.args.self.now in
-    let P = policy_of g.P.Policy.CODE g.P.Policy.share in
+    let P = policy_of g.P.Policy in
     let w = c.elsewhere-covered.ensures ∙ ap (elsewhere r.identity.depot) c.as_slice.ensures.list in
     let code : g.P.Policy.CODE ≡ r.identity.code = grind (arith, nat_tests) in
     let q = proposes P (site r) (view r) code
