@@ -1,6 +1,6 @@
 -- Following a letter's line: the step that the code decided on is the one that the definitions name, it has what
 -- carrying it out relies on, and carrying it out at the record with the sender struck is what the line comes to.
-use Rattle.std.proofs.Common.{◌≡◌, ℕ, ◌≤◌, Bool, true, false, ◌&&◌, eqb, List, Result, sym, refl, ap, ◌∙◌, subst, ap₂, arith}
+use Rattle.std.proofs.Common.{◌≡◌, ℕ, ◌≤◌, Bool, true, false, List, Result, sym, refl, ap, ◌∙◌, subst, ap₂, arith}
 use mathlib.Core.Logic.{∥∥₁_map}
 use mathlib.Core.Option.{Option, none}
 use Rattle.entries.specs.declared.lists.Entry.{Entry}
@@ -26,7 +26,7 @@ use Rattle.protocol.specs.State.{pick, Site, State, owed}
 use Rattle.protocol.specs.Outcome.{Outcome, refuses, serves, after}
 use Rattle.protocol.specs.Lines.{decided, Grounds}
 use Rattle.protocol.specs.Steps.{situation, concluded}
-use Rattle.protocol.specs.Taking.{kind_of, tells_end, strikes, struck, standing_in, step_for, take}
+use Rattle.protocol.specs.Taking.{strikes, struck, standing_in, step_for, take}
 use Rattle.protocol.proofs.Tests.{by}
 use Rattle.protocol.proofs.ByKind.{tells_how, by_kind, by_kind_lem}
 use Rattle.protocol.proofs.LawfulLists.{kind_back}
@@ -115,13 +115,6 @@ module _ (letter : Message) where
   -- whether a record's guards see this of it
   abbrev Seen : Site → State → Situation → Type 0
   Seen a t about = about ≡ situation a t m.leader m.sender m.number m.entries
-
-  -- whether it strikes its sender, as the code tests it
-  pub strikes_is : (a : Site) {t b : Bool} → t ≡ tells_end k → b ≡ (t && eqb m.leader a.depot) → b ≡ strikes a m
-  unfolding strikes
-  strikes_is a {t} {b} e f =
-      let q : tells_end (kind_of (kind_number k)) ≡ tells_end k = ap tells_end (kind_back k) in
-      f ∙ ap (λ x. x && eqb m.leader a.depot) (e ∙ sym q)
 
   -- the step that it calls for, as the code decides it
   pub step_now : (a : Site) (t : State) {n : ℕ} {about : Situation} {x : Step} → x ≡ decided k n about

@@ -1,7 +1,6 @@
 -- Letters that a record sends: a letter to nobody is none, any other is what the lent message then says, and each is
 -- lawful since the record is.
 use Rattle.std.proofs.Common.{◌≡◌, ℕ, List, sym, refl, subst}
-use mathlib.Core.Logic.{∥∥₁_map}
 use mathlib.Core.Option.{Option, none, some}
 use Rattle.std.proofs.lemmas.Bool.{eq-eqb, ne_eqb}
 use Rattle.entries.specs.declared.lists.Entry.{Entry}
@@ -11,12 +10,10 @@ use Rattle.letters.specs.declared.message.Message.{Message}
 use Rattle.letters.specs.Contents.{Contents, Lawful}
 use Rattle.letters.specs.Writing.{message_says}
 use Rattle.protocol.specs.State.{pick, Site, State}
-use Rattle.protocol.specs.Outcome.{Outcome, sends, mail, note}
-use Rattle.protocol.specs.Law.{Law}
-use Rattle.protocol.specs.Keeping.{Keeps, Readable}
+use Rattle.protocol.specs.Outcome.{mail, note}
+use Rattle.protocol.specs.Keeping.{Readable}
 use Rattle.std.specs.declared.option.Option.TheVariants as options
 use Rattle.book.specs.Calls.{Posted, Sent}
-use Rattle.book.proofs.Plain.{readable_known}
 
 module _ (a : Site) (s : State) (k : Kind) (to : Depots) (L : ℕ) (es : List Entry) where
   none_sent : to.0 ≡ 0 → mail a s k to.0 L es ≡ none
@@ -37,11 +34,6 @@ module _ (a : Site) (s : State) (k : Kind) (to : Depots) (L : ℕ) (es : List En
   -- a letter that is sent is lawful
   pub note_lawful : (to.0 ≡ 0 → ⊥) → Readable (mail a s k to.0 L es) → Lawful (note a s k to.0 L es)
   note_lawful e h = subst Readable (one_sent e) h
-
--- what a lawful call sends can be read
-pub fine : (a : Site) (s : State) (o : Outcome) (m : Option Contents) → ((law : Law a s) → Keeps a s o) → sends o ≡ m
-    → ∥ Law a s ∥₁ → Readable m
-fine a s o m keeps e ok = readable_known m (∥∥₁_map ok (λ law. subst Readable e (keeps law).mails))
 
 -- the same letter from an equal record
 pub mail_is : {a a' : Site} {s s' : State} (k : Kind) {to to' : ℕ} (L : ℕ) (es : List Entry) → a ≡ a' → s ≡ s'

@@ -15,14 +15,15 @@ use Rattle.policies.specs.Shares.{share_of}
 use Rattle.protocol.specs.Policy.{Policy}
 use Rattle.protocol.specs.Listing.{every}
 use Rattle.protocol.specs.Law.{Law}
-use Rattle.protocol.specs.Keeping.{Keeps, Readable}
+use Rattle.protocol.specs.Keeping.{Keeps, CallsKeep, Readable}
 use Rattle.protocol.specs.State.{pick, Site, State, pair, others, stocked, hears, bound, ended, settled}
 use Rattle.protocol.specs.Outcome.{Outcome, serves, after, sends, mail}
 use Rattle.protocol.specs.Steps.{concluded}
 use Rattle.book.specs.declared.record.Record.{Record}
 use Rattle.book.specs.View.{site, view}
-use Rattle.book.specs.Calls.{at, stepped, Posted, Called, Sent}
+use Rattle.book.specs.Calls.{at, stepped, Sound, Posted, Called, Sent}
 use Rattle.book.proofs.Answering.{call_served}
+use Rattle.book.proofs.Kept.{any_policy, own_calls}
 use Rattle.book.proofs.Mailing.{mail_is, posted_as}
 use Rattle.book.proofs.Plain.{readable_known}
 
@@ -38,6 +39,11 @@ module _ {a : Site} {s : State} {o : Outcome} (ok : ∥ Keeps a s o ∥₁) wher
   pub said_fine : {t t' : State} {a' : Site} {to to' : ℕ} (k : Kind) (L : ℕ) (es : List Entry)
       → o ≡ serves t (mail a t k to L es) → a' ≡ a → t' ≡ t → to' ≡ to → Readable (mail a' t' k to' L es)
   said_fine k L es q e f g = subst Readable (sym (mail_is k L es e f g)) (readable_after q)
+
+-- an own call keeps the law and sends what can be read
+pub sound_by : (call : Site → State → Outcome) (r : Record)
+    → (CallsKeep any_policy (site r) (view r) → Keeps (site r) (view r) (at call r)) → Sound call r
+sound_by call r keeps = ∥∥₁_map r.kept (λ law. keeps (own_calls (site r) (view r) law))
 
 -- a step that leaves a record and then sends a letter of it
 pub step_said : {call : Site → State → Outcome} {r t : Record} {u : State} {to to' : ℕ} {x : Sent}

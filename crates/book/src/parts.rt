@@ -19,6 +19,7 @@ pub(crate) const BLANK_ROW: Row = Row {
 };
 
 /// One row for each leader.
+// an array in an inner struct is a form that the rules name, and a record allocates nothing
 #[derive(Clone, Copy)]
 pub struct Rows {
     pub of: [Row; PLACES],

@@ -19,7 +19,8 @@ mod stepping;
 mod stock;
 
 /// What one depot knows: its stock, where it stands in the handover of each leader, and what it gathers, is bound to
-/// and is owed. An opened set hands it out, and nothing but its calls changes it.
+/// and is owed. An opened set hands it out, and nothing but its calls changes it. A call that may send a letter answers
+/// to whom the lent message then goes, and `None` where there is nothing to send.
 ///
 /// Its type carries what every record keeps: `kept` is the law, and `bounds` the part of it that sums and tests rely on.
 #[derive(Drop)]

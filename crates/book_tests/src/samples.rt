@@ -5,10 +5,7 @@ use protocol::Refusal;
 
 /// Whether the answer is a refusal with this number.
 pub(crate) fn refused<T: Drop>(answer: Result<T, Refusal>, number: u8) -> bool {
-    match answer {
-        Ok(_) => false,
-        Err(refusal) => refusal.number() == number,
-    }
+    answer.is_err_and(|refusal| refusal.number() == number)
 }
 
 /// A set of ten pieces that is opened without an allotment: depot 0 has them all.

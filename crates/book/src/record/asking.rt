@@ -29,7 +29,8 @@ impl Record {
         names_of(self.list.as_slice()).without(self.identity.depot)
     }
 
-    /// Sends Query to the others on the list. The record stays as it is. To nobody there is nothing to send.
+    /// Sends Query to the others on the list. It answers who they are, and `None` where there is nothing to send. The
+    /// record stays as it is.
     ///
     /// Refuses a depot that is not bound (20).
     pub fn query(&self, out: &mut Message) -> Result<Option<Depots>, Refusal>
@@ -62,7 +63,8 @@ impl Record {
     }
 
     /// Reminds those that the depot waits for, by its own row: at 1 it sends Ask to those not gathered, at 2 List to
-    /// those on the list not heard, at 4 Settle and at 5 Drop to those owing. The record stays as it is.
+    /// those on the list not heard, at 4 Settle and at 5 Drop to those owing. It answers who they are. The record stays as
+    /// it is.
     ///
     /// Refuses where nobody is left to remind, and at another standing (21).
     pub fn remind(&self, out: &mut Message) -> Result<Option<Depots>, Refusal>

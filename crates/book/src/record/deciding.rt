@@ -9,7 +9,7 @@ ghost use Rattle.letters.specs.Writing.{message_says};
 ghost use Rattle.protocol.specs.Code.{standing_number};
 ghost use Rattle.protocol.specs.State.{fits};
 ghost use Rattle.protocol.specs.Steps.{fits_gathered, acceptable_list, situation};
-ghost use Rattle.protocol.specs.Taking.{tells_end, standing_in};
+ghost use Rattle.protocol.specs.Taking.{tells_end, strikes, standing_in};
 ghost use Rattle.book.specs.Sharing.{policy_of};
 ghost use Rattle.book.specs.View.{site, view};
 ghost use Rattle.book.specs.Calls.{Admitted};
@@ -21,7 +21,7 @@ use policies::Policy;
 use protocol::{Refusal, Situation, Standing};
 
 /// Whether a depot tells by a letter of the kind that its handover has ended.
-pub(crate) fn tells_end(kind: Kind) -> bool
+fn tells_end(kind: Kind) -> bool
     ensures { result ≡ tells_end kind }
 {
     matches!(kind, Kind::No | Kind::Settle | Kind::Drop | Kind::Done)
@@ -86,6 +86,13 @@ impl Record {
             return Standing::Blank;
         }
         row.standing
+    }
+
+    /// Whether a letter strikes its sender from those owing: it tells the leader that its handover has ended.
+    pub(crate) fn strikes(&self, letter: &Message) -> bool
+        ensures { result ≡ strikes (site self.now) (message_says letter.now) }
+    {
+        tells_end(letter.kind) && letter.head.leader == self.identity.depot
     }
 
     /// Whether the depot can accept a list: it names only depots of the set, has the leader, and has the own entry as

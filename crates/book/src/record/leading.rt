@@ -18,9 +18,6 @@ use policies::Policy;
 use protocol::{Refusal, Standing};
 use std::mem::replace;
 
-/// The last number that a handover can have.
-const LAST_NUMBER: u32 = 4_294_967_295;
-
 /// The pieces on the shelves of all entries but that of the depot. A record's lists are no longer than this asks.
 fn elsewhere(list: &[Entry], depot: u8) -> u64
     requires { length list.now ≤ max_depots }
@@ -33,7 +30,8 @@ fn elsewhere(list: &[Entry], depot: u8) -> u64
 }
 
 impl Record {
-    /// Gathers the own entry under the own row's next number, and sends Ask to all others.
+    /// Gathers the own entry under the own row's next number, and sends Ask to all others. It answers who they are, and
+    /// `None` where there is nothing to send.
     ///
     /// Refuses an engaged depot (8), a depot still owing (12), a depot without a wish (13), a shelf above 1,000,000,000
     /// (14), the last number there is (15).
@@ -53,13 +51,12 @@ impl Record {
             return Err(Refusal::ShelfTooGreat);
         }
         let depot = self.identity.depot;
-        let number = self.row(depot).number;
-        if number == LAST_NUMBER {
+        let Some(number) = self.row(depot).number.checked_add(1) else {
             return Err(Refusal::NumbersUsed);
-        }
+        };
         let own = self.own_entry();
         let row = Row {
-            number: number + 1,
+            number,
             standing: Standing::Offered,
         };
         self.rows.put(depot, row);
@@ -86,7 +83,8 @@ impl Record {
         self.say(Kind::List, to, depot, self.list.as_slice(), out)
     }
 
-    /// Moves the gathered entries into the list and sends it to the others on it, who owe an answer from then on.
+    /// Moves the gathered entries into the list and sends it to the others on it, who owe an answer from then on. It
+    /// answers who they are, and `None` where there is nothing to send.
     ///
     /// Refuses another policy than the record's (18), a depot that gathers nothing (16), others' shelves that together
     /// are below the wish (17).

@@ -41,7 +41,8 @@ impl Record {
     }
 
     /// Leaves a handover that the depot has only offered to, or gathers for: it ends at 3. A leader sends Drop to all
-    /// others, another depot sends No to the leader.
+    /// others, another depot sends No to the leader. It answers to whom the letter goes, and `None` where there is nothing
+    /// to send.
     ///
     /// Refuses a depot that stands nowhere at 1 (19).
     pub fn withdraw(&mut self, out: &mut Message) -> Result<Option<Depots>, Refusal>

@@ -26,7 +26,8 @@ impl Record {
         }
     }
 
-    /// Fills in a letter with these entries about the handover of a leader. To nobody it is nothing to send.
+    /// Fills in a letter with these entries about the handover of a leader. To nobody it is `None`, nothing to send.
+    // `to` and `leader` are no struct: the head that holds them is made here once, and not by each of the callers
     pub(crate) fn say(
         &self,
         kind: Kind,

@@ -13,7 +13,7 @@ ghost use Rattle.book.specs.View.{site, view};
 ghost use Rattle.book.specs.Calls.{stepped, lined, Sound, StepGrounds, Called, Received};
 
 use crate::record::Record;
-use crate::record::deciding::{has_all, tells_end};
+use crate::record::deciding::has_all;
 use entries::{Depots, Entries, names_of};
 use letters::{Fault, Kind, Letter, Message, entries_in, read};
 use policies::{Policy, share_of};
@@ -163,9 +163,8 @@ impl Record {
         ensures { Called (lined (policy_of P.Policy) (message_says letter.now)) result self.old
             self.new out.old out.new }
     {
-        let head = letter.head;
-        let strikes = tells_end(letter.kind) && head.leader == self.identity.depot;
-        self.strike(strikes, head.sender);
+        let strikes = self.strikes(letter);
+        self.strike(strikes, letter.head.sender);
         let step = decide(
             letter.kind,
             self.standing_in(letter),
@@ -191,7 +190,8 @@ impl Record {
         self.follow::<P>(&letter, out)
     }
 
-    /// Receives a letter in bytes: what it answers goes into the lent message.
+    /// Receives a letter in bytes: what it answers goes into the lent message. The call answers to whom, and `None` where
+    /// there is nothing to send.
     ///
     /// Refuses bytes that reading refuses (22 to 28), then another policy than the record's (18), a letter not sent to
     /// this depot (29), a sender or leader that the set does not have or the depot itself as sender (30), a number below

@@ -1,16 +1,17 @@
 use Rattle.std.proofs.Common.{◌≡◌, ◌<◌, sym, refl, ap, ◌∙◌, subst}
+use mathlib.Core.Logic.{∥∥₁_map}
 use Rattle.std.specs.List.{AllByRecursion}
 use Rattle.entries.specs.Limits.{max_depots}
 use Rattle.entries.specs.Sets.{less, mark}
 use Rattle.entries.specs.Lists.{names}
 use Rattle.letters.specs.declared.letter.Kind.TheVariants as kinds
+use Rattle.protocol.specs.Keeping.{Readable}
 use Rattle.protocol.specs.State.{others}
-use Rattle.protocol.specs.Outcome.{after, sends}
-use Rattle.protocol.specs.Own.{propose}
 use Rattle.book.specs.View.{site, view}
-use Rattle.book.proofs.Kept.{kept}
+use Rattle.book.proofs.Kept.{written_kept}
 use Rattle.book.proofs.Listing.{gathered_depots}
-use Rattle.book.proofs.Mailing.{fine, mail_with, posted_as}
+use Rattle.book.proofs.Mailing.{mail_with, posted_as}
+use Rattle.book.proofs.Stepping.{law_after, readable_after}
 use Rattle.book.proofs.Written.{state_is}
 use Rattle.book.proofs.Outcomes.{under, under_kept, proposes}
 use Rattle.book.proofs.record.Record.propose_gathered.Goals as goal
@@ -30,8 +31,7 @@ invariant_of-self-clause-kept c =
     ∙ ap (λ x. less x (mark r.identity.depot)) (c.names_of.ensures ∙ ap names c.as_slice.ensures.list) in
     let e = state_is r.shelf r.tray r.wish c.stand.ensures c.replace-self.ensures.value c.mark-self.ensures
     (c.replace-self.ensures.after ∙ c.empty.ensures) to in
-    kept (site r) (view r) _ (propose (under (site r)) (site r) (view r)) (under_kept (site r) (view r))
-    (e ∙ sym (ap (after (view r)) q)) r.kept
+    written_kept (site r) _ _ e (law_after (∥∥₁_map r.kept (under_kept (site r) (view r))) q)
 
 pub say-requires : goal.say-requires
 say-requires c =
@@ -40,11 +40,11 @@ say-requires c =
     let to : c.without-to.result.0 ≡ others (site r) (view r).gathered =
     c.without-to.ensures
     ∙ ap (λ x. less x (mark r.identity.depot)) (c.names_of.ensures ∙ ap names c.as_slice.ensures.list) in
-    let list = c.as_slice-2.ensures.list ∙ c.replace-self.ensures.value in
     let e = state_is r.shelf r.tray r.wish c.stand.ensures c.replace-self.ensures.value c.mark-self.ensures
     (c.replace-self.ensures.after ∙ c.empty.ensures) to in
-    fine (site r) (view r) (propose (under (site r)) (site r) (view r)) _ (under_kept (site r) (view r))
-    (ap sends q ∙ sym (mail_with kinds.List r.identity.depot (refl {a = site r}) e to list)) r.kept
+    let list = c.as_slice-2.ensures.list ∙ c.replace-self.ensures.value in
+    subst Readable (sym (mail_with kinds.List r.identity.depot (refl {a = site r}) e to list))
+    (readable_after (∥∥₁_map r.kept (under_kept (site r) (view r))) q)
 
 pub returns : goal.returns
 returns c =
@@ -52,12 +52,10 @@ returns c =
     let to : c.without-to.result.0 ≡ others (site r) (view r).gathered =
     c.without-to.ensures
     ∙ ap (λ x. less x (mark r.identity.depot)) (c.names_of.ensures ∙ ap names c.as_slice.ensures.list) in
-    let list = c.as_slice-2.ensures.list ∙ c.replace-self.ensures.value in
     let e = state_is r.shelf r.tray r.wish c.stand.ensures c.replace-self.ensures.value c.mark-self.ensures
     (c.replace-self.ensures.after ∙ c.empty.ensures) to in
+    let list = c.as_slice-2.ensures.list ∙ c.replace-self.ensures.value in
     record {
-      posts =
-          posted_as _ _ _ (mail_with kinds.List r.identity.depot (refl {a = site r}) e to list)
-          c.say.ensures;
+      posts = posted_as _ _ _ (mail_with kinds.List r.identity.depot (refl {a = site r}) e to list) c.say.ensures;
       becomes = record { state = e; same = refl };
     }

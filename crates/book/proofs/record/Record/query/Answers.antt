@@ -1,13 +1,11 @@
-use Rattle.std.proofs.Common.{[], sym, refl, ap, ◌∙◌}
+use Rattle.std.proofs.Common.{[], sym, refl, ◌∙◌}
 use Rattle.letters.specs.declared.letter.Kind.TheVariants as kinds
 use Rattle.protocol.specs.declared.standing.Standing.TheVariants.{Accepted}
-use Rattle.protocol.specs.Outcome.{sends}
 use Rattle.protocol.specs.Own.{query}
 use Rattle.book.specs.View.{site, view}
-use Rattle.book.proofs.Kept.{own_calls}
 use Rattle.book.proofs.Standings.{stands_still, stands_elsewhere}
-use Rattle.book.proofs.Answering.{call_refused, call_served}
-use Rattle.book.proofs.Mailing.{fine, mail_is, posted_as}
+use Rattle.book.proofs.Answering.{call_refused}
+use Rattle.book.proofs.Stepping.{sound_by, said_fine, step_said}
 use Rattle.book.proofs.Outcomes.{query_refuses, query_bound}
 use Rattle.book.proofs.record.Record.query.Goals as goal
 
@@ -23,9 +21,7 @@ say-requires c =
     let l = c.leader-leader.result in
     let q = query_bound (site r) (view r) l c.leader-leader.ensures
     (stands_still _ Accepted c.standing.ensures (sym c.ne.ensures ∙ c.if-ne.false)) in
-    let e = mail_is kinds.Query l [] (refl {a = site r}) (refl {a = view r}) c.others-to.ensures in
-    fine (site r) (view r) (query (site r) (view r)) _ (λ law. (own_calls (site r) (view r) law).query)
-    (ap sends q ∙ sym e) r.kept
+    said_fine (sound_by query r (λ k. k.query)) kinds.Query l [] q refl refl c.others-to.ensures
 
 pub returns : goal.returns
 returns c =
@@ -33,5 +29,4 @@ returns c =
     let l = c.leader-leader.result in
     let q = query_bound (site r) (view r) l c.leader-leader.ensures
     (stands_still _ Accepted c.standing.ensures (sym c.ne.ensures ∙ c.if-ne.false)) in
-    let e = mail_is kinds.Query l [] (refl {a = site r}) (refl {a = view r}) c.others-to.ensures in
-    call_served q refl refl (posted_as _ _ _ e c.say.ensures)
+    step_said kinds.Query l [] q refl refl c.others-to.ensures c.say.ensures

@@ -2,12 +2,12 @@ use Rattle.std.proofs.Common.{◌≡◌, sym, refl, ap, ◌∙◌, arith}
 use Rattle.entries.specs.Sets.{add}
 use Rattle.protocol.specs.declared.standing.Standing.TheVariants.{Offered, Accepted}
 use Rattle.protocol.specs.State.{hears, pair}
-use Rattle.protocol.specs.Outcome.{after}
 use Rattle.protocol.specs.Own.{restart}
 use Rattle.book.specs.View.{site, view}
-use Rattle.book.proofs.Kept.{kept, own_calls, stood_low}
+use Rattle.book.proofs.Kept.{written_kept, stood_low}
 use Rattle.book.proofs.Standings.{stands, stands_not}
 use Rattle.book.proofs.Answering.{left_served}
+use Rattle.book.proofs.Stepping.{sound_by, law_after}
 use Rattle.book.proofs.Outcomes.{restart_bound, restart_free, restart_gathering}
 use Rattle.book.proofs.record.Record.restart.Goals as goal
 
@@ -40,8 +40,7 @@ invariant_of-self-clause-kept c =
     (stands_not _ Offered c.standing.ensures (sym c.eq.ensures ∙ c.if-eq.false))
     (stands _ Accepted c.standing-2.ensures (sym c.eq-2.ensures ∙ c.if-eq-2.true)) in
     let h : c.with-self.result.0 ≡ pair (site r) l = c.with-self.ensures ∙ ap (λ m. add m l) c.mark.ensures in
-    kept (site r) (view r) _ (restart (site r) (view r)) (λ law. (own_calls (site r) (view r) law).restart)
-    (ap (λ x. hears x (view r)) h ∙ sym (ap (after (view r)) q)) r.kept
+    written_kept (site r) _ _ (ap (λ x. hears x (view r)) h) (law_after (sound_by restart r (λ k. k.restart)) q)
 
 pub returns-then-eq-2 : goal.returns-then-eq-2
 returns-then-eq-2 c =

@@ -1,14 +1,12 @@
 use Rattle.std.proofs.Common.{◌≡◌, [], sym, ap, ◌∙◌, arith}
 use Rattle.letters.specs.declared.letter.Kind.TheVariants as kinds
 use Rattle.protocol.specs.State.{rest}
-use Rattle.protocol.specs.Outcome.{sends}
 use Rattle.protocol.specs.Own.{withdraw}
 use Rattle.book.specs.View.{site, view}
-use Rattle.book.proofs.Kept.{own_calls}
 use Rattle.protocol.specs.declared.standing.Standing.TheVariants.{Offered}
 use Rattle.book.proofs.Standings.{stands_still, stands_elsewhere}
-use Rattle.book.proofs.Answering.{call_refused, call_served}
-use Rattle.book.proofs.Mailing.{fine, mail_is, posted_as}
+use Rattle.book.proofs.Answering.{call_refused}
+use Rattle.book.proofs.Stepping.{sound_by, said_fine, step_said}
 use Rattle.book.proofs.Outcomes.{withdraw_refuses, withdraw_leading, withdraw_following}
 use Rattle.book.proofs.record.Record.withdraw.Goals as goal
 
@@ -25,10 +23,8 @@ say-requires c =
     let d : l ≡ (site r).depot = c.if-leader-self.true ∙ ap (λ a. a.depot) c.end.ensures.same in
     let q = withdraw_leading (site r) (view r) l c.leader-leader.ensures
     (stands_still _ Offered c.standing.ensures (sym c.ne.ensures ∙ c.if-ne.false)) d in
-    let e = mail_is kinds.Drop l [] c.end.ensures.same c.end.ensures.state
-    (c.rest-to.ensures ∙ ap rest c.end.ensures.same) in
-    fine (site r) (view r) (withdraw (site r) (view r)) _ (λ law. (own_calls (site r) (view r) law).withdraw)
-    (ap sends q ∙ sym e) r.kept
+    said_fine (sound_by withdraw r (λ k. k.withdraw)) kinds.Drop l [] q c.end.ensures.same c.end.ensures.state
+    (c.rest-to.ensures ∙ ap rest c.end.ensures.same)
 
 pub returns-then-leader-self : goal.returns-then-leader-self
 returns-then-leader-self c =
@@ -37,9 +33,8 @@ returns-then-leader-self c =
     let d : l ≡ (site r).depot = c.if-leader-self.true ∙ ap (λ a. a.depot) c.end.ensures.same in
     let q = withdraw_leading (site r) (view r) l c.leader-leader.ensures
     (stands_still _ Offered c.standing.ensures (sym c.ne.ensures ∙ c.if-ne.false)) d in
-    let e = mail_is kinds.Drop l [] c.end.ensures.same c.end.ensures.state
-    (c.rest-to.ensures ∙ ap rest c.end.ensures.same) in
-    call_served q c.end.ensures.state c.end.ensures.same (posted_as _ _ _ e c.say.ensures)
+    step_said kinds.Drop l [] q c.end.ensures.same c.end.ensures.state
+    (c.rest-to.ensures ∙ ap rest c.end.ensures.same) c.say.ensures
 
 pub say-requires-2 : goal.say-requires-2
 say-requires-2 c =
@@ -48,9 +43,8 @@ say-requires-2 c =
     let d : l ≡ (site r).depot → ⊥ = λ x. (let y = ap (λ a. a.depot) c.end.ensures.same in omega arith) in
     let q = withdraw_following (site r) (view r) l c.leader-leader.ensures
     (stands_still _ Offered c.standing.ensures (sym c.ne.ensures ∙ c.if-ne.false)) d in
-    let e = mail_is kinds.No l [] c.end.ensures.same c.end.ensures.state c.mark.ensures in
-    fine (site r) (view r) (withdraw (site r) (view r)) _ (λ law. (own_calls (site r) (view r) law).withdraw)
-    (ap sends q ∙ sym e) r.kept
+    said_fine (sound_by withdraw r (λ k. k.withdraw)) kinds.No l [] q c.end.ensures.same c.end.ensures.state
+    c.mark.ensures
 
 pub returns : goal.returns
 returns c =
@@ -59,5 +53,5 @@ returns c =
     let d : l ≡ (site r).depot → ⊥ = λ x. (let y = ap (λ a. a.depot) c.end.ensures.same in omega arith) in
     let q = withdraw_following (site r) (view r) l c.leader-leader.ensures
     (stands_still _ Offered c.standing.ensures (sym c.ne.ensures ∙ c.if-ne.false)) d in
-    let e = mail_is kinds.No l [] c.end.ensures.same c.end.ensures.state c.mark.ensures in
-    call_served q c.end.ensures.state c.end.ensures.same (posted_as _ _ _ e c.say-2.ensures)
+    step_said kinds.No l [] q c.end.ensures.same c.end.ensures.state
+    c.mark.ensures c.say-2.ensures
