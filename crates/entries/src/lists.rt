@@ -56,6 +56,7 @@ pub fn on_list(list: &[Entry], depot: u8) -> bool
 
 /// The set of the depots on a list. Callers have the list from a letter that was read or from a record, where every
 /// depot lies below the greatest number.
+// asked, and no type of depots: an entry is also what is read of bytes, whose depot may be any
 pub fn names_of(list: &[Entry]) -> Depots
     requires { AllByRecursion (λ e. e.depot < max_depots) list.now }
     ensures { result.0 ≡ names list.now }

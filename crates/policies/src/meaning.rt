@@ -27,6 +27,7 @@ pub trait Policy {
     }
 
     /// The share of the entry at a place of a list. Callers have the list from a record or a letter, where it is one.
+    // asked, and no type of lists: each caller would make one for this call alone, out of what its record's law says
     fn share_at(list: &[Entry], place: usize) -> u32
         requires listed { Listed list.now }
         requires within { place < length list.now }
