@@ -27,7 +27,8 @@ pub enum InsertRefusal {
 
 /// Entries in a place of their own, which has room for one of each depot and never allocates. A clause sees them as the
 /// list that they are.
-#[derive(Drop)]
+// no `Copy`, which the library's vector has not: `Entries::of(place.as_slice())` copies a place, and cannot fail
+#[derive(Clone, Drop)]
 pub struct Entries {
     items: ArrayVec<Entry, PLACES>,
 }

@@ -30,6 +30,7 @@ pub struct Entry {
 pub fn pool_of(list: &[Entry]) -> Option<u32>
     ensures { result ≡ (if nat_le (pool list.now) max_pool then Some (pool list.now) else None) }
 {
+    // no `try_fold`: tried, and its closure, which adds, tests and answers an Option, reads no plainer
     let mut sum: u32 = 0;
     for next in list {
         if next.shelf > MAX_POOL - sum {
@@ -61,6 +62,7 @@ pub fn names_of(list: &[Entry]) -> Depots
     requires { AllByRecursion (λ e. e.depot < max_depots) list.now }
     ensures { result.0 ≡ names list.now }
 {
+    // no `fold`: tried, and that its closure may be called at each turn did not prove
     let mut set = Depots::none();
     for next in list.iter().rev() {
         set = set.with(next.depot);
@@ -79,6 +81,7 @@ fn may_follow(next: &Entry, least: u8) -> bool
 fn rises(list: &[Entry]) -> bool
     ensures { Decides result (Orderly 0 list.now) }
 {
+    // no `all`: what an entry has to follow changes from one to the next
     let mut least = 0;
     for next in list {
         if !may_follow(next, least) {

@@ -99,11 +99,7 @@ fn entries_are_found_by_depot(rt: HostRuntime) {
 
 /// The set of a list's depots, or none where the entries are no list.
 fn names(list: &[Entry]) -> Option<Depots> {
-    if is_list(list) {
-        Some(names_of(list))
-    } else {
-        None
-    }
+    is_list(list).then(|| names_of(list))
 }
 
 #[test]

@@ -34,7 +34,7 @@ impl Lamp {
 }
 
 /// Why lamps and a period are not taken, in the order of the tests.
-// No `Display` here: what is told of a refusal names a line of the sheet, of which only `lamp_report` knows.
+// no `Display` here: a storeman is told by the report, whose `Fault` has one that promises every byte
 #[derive(Clone, Copy, PartialEq, Eq, Debug)]
 pub enum Refusal {
     /// More than 1,000 lamps: refusal 35.
@@ -48,7 +48,7 @@ pub enum Refusal {
 
 impl Refusal {
     /// The refusal's number in the book.
-    // A method and no `From` for `u8`: the word `number` says which of a refusal's two numbers is meant, not the place.
+    // no `From`, nor a trait of all that have a number: `refusal.number()` names what `u8::from(refusal)` would not
     pub fn number(self) -> u8
         ensures { result ≡ number_of self }
     {

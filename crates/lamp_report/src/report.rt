@@ -29,6 +29,7 @@ fn lamp_lines(heap: Global, hours: &LampHours) -> Result<String, AllocError>
     let lamps = hours.lamps();
     for (place, lamp) in lamps.iter().enumerate() {
         let line = place + FIRST_LAMP_LINE;
+        // by its place: the forecast knows that its lamps are lawful, and a lamp alone does not
         let need = hours.need_at(place).unwrap();
         writeln!(
             text,

@@ -29,7 +29,7 @@ pub enum Unreadable {
 
 impl Unreadable {
     /// The book's number of the refusal.
-    // no `From<Unreadable> for u8`: `why.number()` names what `u8::from(why)` would not
+    // no `From`, nor a trait of all that have a number: `why.number()` names what `u8::from(why)` would not
     pub fn number(self) -> u8
         ensures { result ≡ number_of self }
     {
@@ -80,7 +80,7 @@ pub enum Unwritten {
 
 impl Unwritten {
     /// The book's number of the refusal.
-    // no `From<Unwritten> for u8`: `unwritten.number()` names what `u8::from(unwritten)` would not
+    // no `From`, nor a trait of all that have a number: `unwritten.number()` names what `u8::from(unwritten)` would not
     pub fn number(self) -> u8
         ensures { result ≡ unwritten_number self }
     {

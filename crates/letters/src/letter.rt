@@ -50,7 +50,7 @@ impl TryFrom<u8> for Kind {
 
 impl Kind {
     /// The kind's number in bytes.
-    // no `From<Kind> for u8`: `kind.number()` names what `u8::from(kind)` would not
+    // no `From`, nor a trait of all that have a number: `kind.number()` names what `u8::from(kind)` would not
     pub fn number(self) -> u8
         ensures { result ≡ kind_number self }
     {
@@ -69,6 +69,7 @@ pub struct Head {
 }
 
 /// A letter that was read. The entries of an Offer and of a List remain a part of the caller's bytes.
+// an enum of the nine kinds, and not a kind beside a head and bytes: the project names that form
 #[derive(Clone, Copy, PartialEq, Eq, Debug)]
 pub enum Letter<'a> {
     Ask(Head),

@@ -67,6 +67,7 @@ impl<'a> Unchecked<'a> {
     fn check_order(&self) -> Result<(), Unread>
         ensures { refusal_of result ≡ first_failed (rises_tests 0 head_len (entries_in self.now.entries.now)) }
     {
+        // no `is_list`: the place of the first entry that does not rise is told
         let mut least = 0;
         for (place, entry) in EntryReader::new(self.entries, HEAD_LEN as u32) {
             if u16::from(entry.depot) < least {

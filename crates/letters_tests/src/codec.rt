@@ -1,5 +1,5 @@
 // The entry codec by itself, kinds by their numbers, and the layers of a fault.
-use crate::samples::{ASK, OFFER};
+use crate::samples::{ASK, OFFER, told};
 use entries::Entry;
 use letters::{
     Fault, Kind, UnknownKind, Unread, Unreadable, check_entry, entry_at, entry_bytes, read,
@@ -13,7 +13,7 @@ const ENTRY: Entry = Entry {
 
 // What the check of one entry answers: nothing, or the number and the place of the refusal.
 fn refusal(bytes: &[u8], owner: Option<u8>) -> Result<(), (u8, usize)> {
-    check_entry(bytes, 400, owner).map_err(|unread| (unread.why.number(), unread.place))
+    check_entry(bytes, 400, owner).map_err(told)
 }
 
 #[test]

@@ -8,7 +8,7 @@ fn expected(kind: u8, len: usize) -> Result<(), (u8, usize)> {
     }
     let fits = match kind {
         2 => len == 22,
-        3 => 32 <= len && len <= 172 && len % 10 == 2,
+        3 => (32..=172).contains(&len) && len % 10 == 2,
         _ => len == 12,
     };
     if fits { Ok(()) } else { Err((25, 0)) }

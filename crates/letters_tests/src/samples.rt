@@ -1,5 +1,5 @@
 // Letters to test with, and what reading answers to bytes.
-use letters::{ENTRY_LEN, HEAD_LEN, read};
+use letters::{ENTRY_LEN, HEAD_LEN, Unread, read};
 use std::process::Abort;
 
 /// An Ask by depot 2 of five, number 1, Level.
@@ -14,12 +14,14 @@ pub(crate) const LIST: &[u8; 32] = b"\x48\x4F\x03\x02\x00\x01\x02\x01\x00\x00\x0
     \x45\x4E\x00\x00\x00\x00\x00\x00\x00\x04\
     \x45\x4E\x02\x00\x00\x06\x00\x00\x00\x01";
 
+/// The number and the place that a fault of reading tells.
+pub(crate) fn told(unread: Unread) -> (u8, usize) {
+    (unread.why.number(), unread.place)
+}
+
 /// What reading answers to bytes: nothing, or the number and the place of the refusal.
 pub(crate) fn refusal(bytes: &[u8]) -> Result<(), (u8, usize)> {
-    match read(bytes) {
-        Ok(_) => Ok(()),
-        Err(unread) => Err((unread.why.number(), unread.place)),
-    }
+    read(bytes).map(|_| ()).map_err(told)
 }
 
 /// A place of a letter, the byte put there, and what reading answers then.

@@ -34,7 +34,7 @@ pub(crate) fn dealt_at(pieces: u32, entries: usize, place: usize) -> u32
     ensures { result ≡ slice_index (dealt_out pieces entries) place }
 {
     let (each, more) = deal(pieces, entries);
-    // `as`: the library has no From<u32> for usize, and TryFrom would add a case that cannot happen.
+    // `as`: the library has no `From<u32>` for usize
     if place < more as usize {
         each + 1
     } else {

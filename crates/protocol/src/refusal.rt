@@ -62,7 +62,7 @@ pub enum Refusal {
 
 impl Refusal {
     /// The book's number of the refusal.
-    // no `From<Refusal> for u8`: `refusal.number()` names what `u8::from(refusal)` would not
+    // no `From`, nor a trait of all that have a number: `refusal.number()` names what `u8::from(refusal)` would not
     pub fn number(self) -> u8
         ensures { result ≡ refusal_number self }
     {

@@ -23,7 +23,7 @@ pub enum Standing {
 
 impl Standing {
     /// The number of the standing.
-    // no `From<Standing> for u8`: `standing.number()` names what `u8::from(standing)` would not
+    // no `From`, nor a trait of all that have a number: `standing.number()` names what `u8::from(standing)` would not
     pub fn number(self) -> u8
         ensures { result ≡ standing_number self }
     {

@@ -62,6 +62,7 @@ pub struct Situation {
 /// The step that a letter calls for, by its kind and by where the depot stands in the letter's handover: that of the
 /// first line that fits, `Unlined` if none does. In a handover whose number is above that in the leader's row the depot
 /// stands at `Blank`. The clause `grounds` says what whoever carries the step out may rely on.
+// one match over kind and standing, though it is long: the project names that form, and it is the book's table
 pub fn decide(kind: Kind, standing: Standing, about: Situation) -> Step
     ensures step { result ≡ decided kind (standing_number standing) about }
     ensures grounds { Grounds result (standing_number standing) about }

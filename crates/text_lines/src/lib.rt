@@ -73,12 +73,9 @@ impl<'a> Reader<'a> {
         ensures found { result ≡ begins_with (byte_of mark) (left self.old) }
         ensures past { left self.new ≡ past_byte (byte_of mark) (left self.old) }
     {
-        let Some((first, rest)) = self.rest.split_first() else {
+        let Some(rest) = self.rest.strip_prefix(&[u8::from(mark)]) else {
             return false;
         };
-        if *first != u8::from(mark) {
-            return false;
-        }
         self.rest = rest;
         true
     }
@@ -117,6 +114,7 @@ fn digits_value(digits: &[u8]) -> u64
     requires each { all_ascii_digits digits.now ≡ true }
     ensures { result ≡ value_of digits.now }
 {
+    // no `fold`: tried, and that each product fits its type, which the invariant says here, did not prove
     let mut value = 0;
     for digit in digits {
         value = value * 10 + u64::from(*digit - b'0');
