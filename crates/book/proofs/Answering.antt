@@ -1,5 +1,5 @@
 -- Answers of calls from the outcome that the definitions name: refused with nothing changed, or served.
-use Rattle.std.proofs.Common.{◌≡◌, Ok, Err, Result, sym, refl, ap, ◌∙◌, subst}
+use Rattle.std.proofs.Common.{◌≡◌, Ok, Err, sym, refl, ap, ◌∙◌, subst}
 use mathlib.Core.Option.{Option, none}
 use Rattle.letters.specs.declared.message.Message.{Message}
 use Rattle.letters.specs.Contents.{Contents}
@@ -46,12 +46,3 @@ pub call_served : {call : Site → State → Outcome} {r t : Record} {s : State}
     → Called call (Ok x) r t lent left
 call_served {call} {r} {t} {s} {m} {x} {lent} {left} q e same posts =
     record { answer = answer_served x lent left q posts; leaves = left_served r t q e same }
-
--- what a call answers and leaves, in the words of another with the same outcome
-pub called_as : {call call' : Site → State → Outcome} {x : Result Sent Refusal} {r t : Record}
-    {lent left : Message} → at call' r ≡ at call r → Called call x r t lent left → Called call' x r t lent left
-called_as {x = x} {r = r} {t = t} {lent = lent} {left = left} q h =
-    record {
-      answer = subst (λ o. Answered told o x lent left) (sym q) h.answer;
-      leaves = subst (λ o. Left o r t) (sym q) h.leaves;
-    }

@@ -1,14 +1,14 @@
 -- The row that engages a depot, from a search through the rows of the set: the depot is engaged just where the search
 -- finds one, and that one is the leader's, since a record's law lets at most one row engage it.
-use Rattle.std.proofs.Common.{◌≡◌, ℕ, zero, suc, ◌<◌, Bool, true, false, ◌||◌, List, length, Some, None, Option, sym, refl, ap, ◌∙◌, inl, inr, arith}
+use Rattle.std.proofs.Common.{◌≡◌, ℕ, zero, suc, ◌<◌, Bool, true, false, List, length, Some, None, Option, sym, refl, ap, ◌∙◌, arith}
 use mathlib.Core.Logic.{∥∥₁_elim}
 use denote.Struct.Props.{props}
 use Rattle.std.specs.Option.{MatchOption, is_some, unwrap_or}
 use Rattle.std.specs.List.{AllWithin, HoldsAt}
-use Rattle.std.proofs.lemmas.Bool.{cases_eq}
 use Rattle.std.proofs.lemmas.Bool.Decides.{nat_tests}
 use Rattle.protocol.specs.State.{Site, State, any, found, pick, engages, engaged, leader}
 use Rattle.protocol.specs.Law.{Law, Engages}
+use Rattle.protocol.proofs.Tests.{one_any}
 use Rattle.book.specs.declared.parts.Row as parts
 use Rattle.book.specs.Fields.{row_of, rows_of, blank_row, EngagedIn}
 use Rattle.book.proofs.Kept.{own_calls}
@@ -31,19 +31,6 @@ module _ (passes : ℕ → Bool) where
       let p = h n (omega arith) in
       (rw p q, rw p f)
 
-  one_passes : (n L : ℕ) → L < n → passes L ≡ true → any n passes ≡ true
-  unfolding any
-  one_passes zero L l h = absurd (omega arith)
-  one_passes (suc n) L l h =
-      elim (cases_eq L n) [
-        | inl e ↦ rw (sym (ap passes e) ∙ h) refl
-        | inr e ↦ rw (one_passes n L (omega arith) h) (or_true (passes n))
-      ]
-    where
-      or_true : (b : Bool) → (b || true) ≡ true
-      or_true true = refl
-      or_true false = refl
-
 -- a standing that engages
 engaging : (k : ℕ) → engages k ≡ true → Engages k
 unfolding engages
@@ -64,7 +51,7 @@ module _ (a : Site) (s : State) (rs : List parts.Row) (long : length rs ≡ a.n)
   engaged_is None h = sym (none_passes (λ L. engages (s.rows L).standing) a.n (none_engages h)).0
   engaged_is (Some L) h =
       let (l, e) = one_engages L h in
-      sym (one_passes (λ M. engages (s.rows M).standing) a.n L l e)
+      sym (one_any a.n (λ M. engages (s.rows M).standing) L l e)
 
   pub leader_is : ∥ Law a s ∥₁ → (r : Option ℕ) → EngagedIn rs r → unwrap_or r 0 ≡ leader a s
   unfolding leader

@@ -1,17 +1,15 @@
 -- Following a letter's line: the step that the code decided on is the one that the definitions name, it has what
 -- carrying it out relies on, and carrying it out at the record with the sender struck is what the line comes to.
-use Rattle.std.proofs.Common.{◌≡◌, ℕ, ◌≤◌, Bool, true, false, List, Result, sym, refl, ap, ◌∙◌, subst, ap₂, arith}
+use Rattle.std.proofs.Common.{◌≡◌, ℕ, ◌≤◌, Bool, true, false, Result, sym, refl, ap, ◌∙◌, subst, ap₂, arith}
 use mathlib.Core.Logic.{∥∥₁_map}
 use mathlib.Core.Option.{Option, none}
-use Rattle.entries.specs.declared.lists.Entry.{Entry}
 use Rattle.entries.specs.Sets.{mark, less}
-use Rattle.letters.specs.declared.letter.Head.{Head}
 use Rattle.letters.specs.declared.letter.Kind.{Kind}
 use Rattle.letters.specs.declared.letter.Kind.TheVariants as kinds
 use Rattle.letters.specs.declared.message.Message.{Message}
 use Rattle.letters.specs.Contents.{Contents, Lawful}
 use Rattle.letters.specs.Reading.{Refusal as Refused}
-use Rattle.letters.specs.Code.{kind_number, says}
+use Rattle.letters.specs.Code.{kind_number}
 use Rattle.letters.specs.Writing.{message_says}
 use Rattle.letters.proofs.Carried.{lawful_listed}
 use Rattle.protocol.specs.declared.refusal.Refusal.{Refusal}
@@ -185,13 +183,6 @@ module _ (letter : Message) where
             same = c.leaves.same ∙ same;
           };
         }
-
--- the same letter from an equal kind, head and entries
-pub says_is : {k k' : Kind} {h h' : Head} {es es' : List Entry} → k ≡ k' → h ≡ h' → es ≡ es'
-    → says (kind_number k) h es ≡ says (kind_number k') h' es'
-says_is {k' = k'} {h = h} {h' = h'} {es = es} e f g =
-    ap (λ z. says (kind_number z) h es) e ∙ ap (λ z. says (kind_number k') z es) f
-    ∙ ap (λ z. says (kind_number k') h' z) g
 
 -- a letter that no refusal before the lines keeps out: its line keeps the law, since taking it does
 pub line_sound : (P : Policy) → LawfulPolicy P → (r : Record) (m : Contents) → Lawful m

@@ -1,6 +1,6 @@
 -- Gathering an entry: insertion takes it, since its depot is not there and the pool stays within the limit, and since
 -- the record that it leads to is lawful there is room for it.
-use Rattle.std.proofs.Common.{◌≡◌, ◌<◌, ◌≤◌, true, cond, not, List, [], ◌∷◌, length, get_or, is_ok, Result, sym, ap, ◌∙◌, inl, inr, refl, arith}
+use Rattle.std.proofs.Common.{◌≡◌, ◌≤◌, true, cond, not, List, [], ◌∷◌, length, get_or, is_ok, Result, sym, ap, ◌∙◌, inl, inr, refl, arith}
 use mathlib.Core.Logic.{∥∥₁_elim}
 use denote.Struct.Props.{props}
 use Rattle.std.proofs.lemmas.Bool.{cases_eq, and_parts, not-true, false≢true}
@@ -40,16 +40,7 @@ gathered_now a s e {r = r} did fits ok =
     ap is_ok (did.answer ∙ sym (is_taken e s.gathered (not-true _ absent) (omega arith) within)) in
     did.list ∙ ap (λ b. cond b (insert e s.gathered) s.gathered) taken
 
--- an Offer whose entry fits has one, it is the first, and it is the entry that is gathered
-pub offered_some : (gathered es : List Entry) → fits_gathered gathered es ≡ true → 0 < length es
-offered_some gathered [] h = absurd (false≢true h)
-offered_some gathered (e ∷ es) h = omega arith
-
-pub offered_fits : (gathered es : List Entry) (z : Entry) → fits_gathered gathered es ≡ true
-    → fits_gathered gathered (get_or es 0 z ∷ []) ≡ true
-offered_fits gathered [] z h = absurd (false≢true h)
-offered_fits gathered (e ∷ es) z h = h
-
+-- an Offer whose entry fits has one, and the first is the entry that is gathered
 pub offered_gathered : (gathered es : List Entry) (z : Entry) → fits_gathered gathered es ≡ true
     → gathered_with gathered es ≡ insert (get_or es 0 z) gathered
 offered_gathered gathered [] z h = absurd (false≢true h)

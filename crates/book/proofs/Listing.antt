@@ -1,14 +1,12 @@
 -- The record's lists: their depots are depots, and sums over them one entry at a time.
 use Rattle.std.proofs.Common.{◌≡◌, ℕ, ◌+◌, ◌<◌, ◌≤◌, Bool, true, false, cond, not, eqb, List, [], ◌∷◌, refl, sym, ap, ◌∙◌, subst, inl, inr, arith}
-use mathlib.Core.Logic.{∥∥₁_elim, ∥∥₁_map}
-use denote.Struct.Props.{props}
+use mathlib.Core.Logic.{∥∥₁_map}
 use Rattle.std.specs.List.{AllByRecursion, filter, sum_by}
 use Rattle.std.proofs.lemmas.List.Sums.{sum_by-cons}
-use Rattle.std.proofs.lemmas.Bool.{cases_eq, false≢true}
+use Rattle.std.proofs.lemmas.Bool.{cases_eq}
 use Rattle.entries.specs.declared.lists.Entry.{Entry}
 use Rattle.entries.specs.Limits.{max_depots}
-use Rattle.entries.specs.Lists.{Listed, on}
-use Rattle.entries.proofs.Lookup.{on_below}
+use Rattle.entries.specs.Lists.{Listed}
 use Rattle.entries.proofs.Known.{depots_known, listed_known}
 use Rattle.protocol.specs.Listing.{elsewhere}
 use Rattle.protocol.specs.State.{Site, State, leader}
@@ -42,15 +40,6 @@ list_depots a s ok = depots_known max_depots s.list (∥∥₁_map ok (λ law. e
       ap (λ l. (s.rows l).standing) ((own_calls a s law).found L (omega arith)) ∙ k
       ))).0) tt
 ]))
-
--- who is gathered is a depot of the set
-pub gathered_below : (a : Site) (s : State) (y : ℕ) → ∥ Law a s ∥₁ → on s.gathered y ≡ true → y < a.n
-unfolding on
-gathered_below a s y ok h =
-    ∥∥₁_elim ok (hlevel props) (λ law. elim (cases_eq (s.rows a.depot).standing 1) [
-      | inl e ↦ on_below a.n s.gathered y (law.lists.gathering e).0.begun.depots h
-      | inr e ↦ absurd (false≢true (subst (λ es. on es y ≡ true) (law.lists.ungathered e) h))
-    ])
 
 -- the pieces on the other shelves, as the sum over the entries of other depots
 pub elsewhere_sum : (d : ℕ) (es : List Entry)

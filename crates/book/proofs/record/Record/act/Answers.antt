@@ -15,9 +15,9 @@ use Rattle.book.specs.View.{site, view, own_entry}
 use Rattle.book.specs.Calls.{StepGrounds}
 use Rattle.book.proofs.Answering.{call_refused, call_served}
 use Rattle.book.proofs.Carrying.{leader_low}
-use Rattle.book.proofs.Gathering.{offered_fits, offered_gathered}
+use Rattle.book.proofs.Gathering.{offered_gathered}
 use Rattle.book.proofs.Listing.{listed_now}
-use Rattle.book.proofs.Stepping.{law_after, said_fine, step_said, step_is, may_settle, is_settled}
+use Rattle.book.proofs.Stepping.{law_after, said_fine, step_is, may_settle, is_settled}
 use Rattle.book.proofs.record.Record.act.Goals as goal
 
 pub returns-in-Unlined : goal.returns-in-Unlined
@@ -76,14 +76,6 @@ offer-requires-in-OfferAgain-clause-fine g c =
     let m = message_says c.args.letter.now in
     said_fine c.requires.sound kinds.Offer m.leader (own_entry r ∷ []) (step_is P c.args.strikes m (site r) (view r) c.in-OfferAgain.is) refl refl refl
 
-pub gather-requires-clause-fits : goal.gather-requires-clause-fits
-gather-requires-clause-fits g c =
-    let r = c.args.self.now in
-    let m = message_says c.args.letter.now in
-    let list = c.as_slice.ensures.list in
-    let grounds = subst (StepGrounds m (view r)) c.in-Gather.is c.requires.grounds in
-    offered_fits (view r).gathered _ _ (subst (λ es. fits_gathered (view r).gathered es ≡ true) (sym list) grounds)
-
 pub gather-requires-clause-lawful : goal.gather-requires-clause-lawful
 gather-requires-clause-lawful g c =
     let r = c.args.self.now in
@@ -111,13 +103,6 @@ say-requires g c =
     let m = message_says c.args.letter.now in
     said_fine c.requires.sound c.in-Say.kind m.leader [] (step_is P c.args.strikes m (site r) (view r) c.in-Say.is) refl refl c.to_whom-to.ensures
 
-pub returns-in-Say : goal.returns-in-Say
-returns-in-Say g c =
-    let r = c.args.self.now in
-    let P = policy_of g.P.Policy in
-    let m = message_says c.args.letter.now in
-    step_said c.in-Say.kind m.leader [] (step_is P c.args.strikes m (site r) (view r) c.in-Say.is) refl refl c.to_whom-to.ensures c.say.ensures
-
 pub say-requires-in-Refuse : goal.say-requires-in-Refuse
 say-requires-in-Refuse g c =
     let r = c.args.self.now in
@@ -125,14 +110,6 @@ say-requires-in-Refuse g c =
     let m = message_says c.args.letter.now in
     said_fine c.requires.sound kinds.No m.leader [] (step_is P c.args.strikes m (site r) (view r) c.in-Refuse.is) c.end.ensures.same c.end.ensures.state
     c.to_whom-to-in-Refuse.ensures
-
-pub returns-in-Refuse : goal.returns-in-Refuse
-returns-in-Refuse g c =
-    let r = c.args.self.now in
-    let P = policy_of g.P.Policy in
-    let m = message_says c.args.letter.now in
-    step_said kinds.No m.leader [] (step_is P c.args.strikes m (site r) (view r) c.in-Refuse.is) c.end.ensures.same c.end.ensures.state
-    c.to_whom-to-in-Refuse.ensures c.say-in-Refuse.ensures
 
 pub share_of-share-requires : goal.share_of-share-requires
 share_of-share-requires g c =
@@ -162,17 +139,6 @@ say-requires-in-Settle g c =
     said_fine c.requires.sound c.in-Settle.kind m.leader [] (step_is P c.args.strikes m (site r) (view r) c.in-Settle.is) c.settle.ensures.same
     (is_settled P m.leader (view r).list r share c.settle.ensures.state) c.to_whom-to-in-Settle.ensures
 
-pub returns-in-Settle : goal.returns-in-Settle
-returns-in-Settle g c =
-    let r = c.args.self.now in
-    let P = policy_of g.P.Policy in
-    let m = message_says c.args.letter.now in
-    let share = c.share_of-share.ensures
-    ∙ ap (λ es. share_of P.share es r.identity.depot) c.as_slice-in-Settle.ensures.list in
-    step_said c.in-Settle.kind m.leader [] (step_is P c.args.strikes m (site r) (view r) c.in-Settle.is) c.settle.ensures.same
-    (is_settled P m.leader (view r).list r share c.settle.ensures.state) c.to_whom-to-in-Settle.ensures
-    c.say-in-Settle.ensures
-
 pub say-requires-in-Drop : goal.say-requires-in-Drop
 say-requires-in-Drop g c =
     let r = c.args.self.now in
@@ -180,11 +146,3 @@ say-requires-in-Drop g c =
     let m = message_says c.args.letter.now in
     said_fine c.requires.sound c.in-Drop.kind m.leader [] (step_is P c.args.strikes m (site r) (view r) c.in-Drop.is) c.end-in-Drop.ensures.same
     c.end-in-Drop.ensures.state c.to_whom-to-in-Drop.ensures
-
-pub returns-in-Drop : goal.returns-in-Drop
-returns-in-Drop g c =
-    let r = c.args.self.now in
-    let P = policy_of g.P.Policy in
-    let m = message_says c.args.letter.now in
-    step_said c.in-Drop.kind m.leader [] (step_is P c.args.strikes m (site r) (view r) c.in-Drop.is) c.end-in-Drop.ensures.same
-    c.end-in-Drop.ensures.state c.to_whom-to-in-Drop.ensures c.say-in-Drop.ensures

@@ -1,4 +1,4 @@
-use Rattle.std.proofs.Common.{sym, refl, subst, arith}
+use Rattle.std.proofs.Common.{sym, subst, arith}
 use Rattle.protocol.specs.Law.{Law}
 use Rattle.protocol.proofs.LawKept.{law_kept}
 use Rattle.book.specs.Fields.{site_of}
@@ -14,11 +14,3 @@ invariant_of-result c =
     (record { depot = c.requires.depot; size = c.requires.depots; code_low = c.requires.code; code_high = omega arith })
     c.requires.share) ∣₁ in
     record { bounds = bounds_of a _ l; kept = l }
-
-pub returns : goal.returns
-returns c =
-    record {
-      state =
-          state_is c.args.share 0 0 c.blank.ensures c.empty.ensures c.none.ensures c.empty-2.ensures c.none-2.ensures;
-      site = refl;
-    }

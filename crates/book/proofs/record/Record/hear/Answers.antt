@@ -13,13 +13,9 @@ use Rattle.protocol.specs.Outcome.{serves}
 use Rattle.book.specs.Sharing.{policy_of}
 use Rattle.book.specs.View.{site, view}
 use Rattle.book.proofs.Answering.{call_served}
-use Rattle.book.proofs.Carrying.{sender_low}
 use Rattle.book.proofs.Listing.{listed_now, list_depots}
 use Rattle.book.proofs.Stepping.{law_after, said_fine, step_said, may_settle, is_settled, hear_settles, hear_waits}
 use Rattle.book.proofs.record.Record.hear.Goals as goal
-
-pub with-heard-requires : goal.with-heard-requires
-with-heard-requires g c = sender_low c.args.letter.now
 
 pub has_all-requires : goal.has_all-requires
 has_all-requires g c =

@@ -29,15 +29,6 @@ returns-then-covered-from g c =
     let too_few : elsewhere r.identity.depot r.gathered < r.wish = omega arith in
     call_refused (grind (arith, nat_tests))
 
-pub propose_gathered-requires : goal.propose_gathered-requires
-propose_gathered-requires g c =
-    let r = c.args.self.now in
-    let w = c.elsewhere-covered.ensures ∙ ap (elsewhere r.identity.depot) c.as_slice.ensures.list in
-    record {
-      gathers = stands_still _ Offered c.standing.ensures (sym c.ne.ensures ∙ c.if-ne.false);
-      covers = omega arith;
-    }
-
 pub returns : goal.returns
 returns g c =
     let r = c.args.self.now in

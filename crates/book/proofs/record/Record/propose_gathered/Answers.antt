@@ -10,7 +10,7 @@ use Rattle.protocol.specs.State.{others}
 use Rattle.book.specs.View.{site, view}
 use Rattle.book.proofs.Kept.{written_kept}
 use Rattle.book.proofs.Listing.{gathered_depots}
-use Rattle.book.proofs.Mailing.{mail_with, posted_as}
+use Rattle.book.proofs.Mailing.{mail_with}
 use Rattle.book.proofs.Stepping.{law_after, readable_after}
 use Rattle.book.proofs.Written.{state_is}
 use Rattle.book.proofs.Outcomes.{under, under_kept, proposes}
@@ -45,17 +45,3 @@ say-requires c =
     let list = c.as_slice-2.ensures.list ∙ c.replace-self.ensures.value in
     subst Readable (sym (mail_with kinds.List r.identity.depot (refl {a = site r}) e to list))
     (readable_after (∥∥₁_map r.kept (under_kept (site r) (view r))) q)
-
-pub returns : goal.returns
-returns c =
-    let r = c.args.self.now in
-    let to : c.without-to.result.0 ≡ others (site r) (view r).gathered =
-    c.without-to.ensures
-    ∙ ap (λ x. less x (mark r.identity.depot)) (c.names_of.ensures ∙ ap names c.as_slice.ensures.list) in
-    let e = state_is r.shelf r.tray r.wish c.stand.ensures c.replace-self.ensures.value c.mark-self.ensures
-    (c.replace-self.ensures.after ∙ c.empty.ensures) to in
-    let list = c.as_slice-2.ensures.list ∙ c.replace-self.ensures.value in
-    record {
-      posts = posted_as _ _ _ (mail_with kinds.List r.identity.depot (refl {a = site r}) e to list) c.say.ensures;
-      becomes = record { state = e; same = refl };
-    }

@@ -11,14 +11,6 @@ use Rattle.book.proofs.Stepping.{sound_by, law_after}
 use Rattle.book.proofs.Outcomes.{restart_bound, restart_free, restart_gathering}
 use Rattle.book.proofs.record.Record.restart.Goals as goal
 
-pub end-requires-clause-alive : goal.end-requires-clause-alive
-end-requires-clause-alive c =
-    let k = stands _ Offered c.standing.ensures (sym c.eq.ensures ∙ c.if-eq.true) in
-    (omega arith, omega arith)
-
-pub end-requires-clause-fits : goal.end-requires-clause-fits
-end-requires-clause-fits c = λ _. stands _ Offered c.standing.ensures (sym c.eq.ensures ∙ c.if-eq.true)
-
 pub returns-then-eq : goal.returns-then-eq
 returns-then-eq c =
     let r = c.args.self.now in

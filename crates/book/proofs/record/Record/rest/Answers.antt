@@ -1,4 +1,0 @@
-use Rattle.book.proofs.record.Record.rest.Goals as goal
-
-pub returns : goal.returns
-returns c = cc
