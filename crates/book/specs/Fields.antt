@@ -40,7 +40,7 @@ state_of shelf tray wish rows list heard gathered owing =
       owing = owing.0;
     }
 
--- the first of some rows that engages the depot, if there is one
+-- one of these rows that engages the depot, and none only where none does
 abbrev pub EngagedIn : List parts.Row → Option ℕ → Type 0
 EngagedIn rs None = (L : ℕ) → L < length rs → engages (rows_of rs L).standing ≡ false
 EngagedIn rs (Some L) = (L < length rs) × (engages (rows_of rs L).standing ≡ true)

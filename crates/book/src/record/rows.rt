@@ -11,7 +11,7 @@ use crate::record::Record;
 use entries::PLACES;
 use protocol::Standing;
 
-/// The first of these rows that engages the depot.
+/// One of these rows that engages the depot, and none only where none does. A record has at most one.
 fn engaged_in(rows: &[Row]) -> Option<usize>
     ensures { EngagedIn rows.now result }
 {
