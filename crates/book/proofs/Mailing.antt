@@ -1,6 +1,8 @@
 -- Letters that a record sends: a letter to nobody is none, any other is what the lent message then says, and each is
 -- lawful since the record is.
-use Rattle.std.proofs.Common.{◌≡◌, ℕ, List, sym, refl, subst}
+use Rattle.std.proofs.Common.{◌≡◌, ℕ, List, sym, refl, subst, arith}
+use Rattle.std.proofs.lemmas.Nat.{pow_pos}
+use Rattle.entries.specs.Sets.{mark}
 use mathlib.Core.Option.{Option, none, some}
 use Rattle.std.proofs.lemmas.Bool.{eq-eqb, ne_eqb}
 use Rattle.entries.specs.declared.lists.Entry.{Entry}
@@ -48,3 +50,8 @@ mail_with k L e f g h = cc
 pub posted_as : {m m' : Option Contents} (x : Sent) (lent left : Message) → m ≡ m' → Posted m x lent left
     → Posted m' x lent left
 posted_as x lent left e h = subst (λ m. Posted m x lent left) e h
+
+-- a depot's mark is no empty set
+pub mark_some : (depot : ℕ) → mark depot ≡ 0 → ⊥
+unfolding mark
+mark_some depot empty = let some = pow_pos depot in omega arith

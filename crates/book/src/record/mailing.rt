@@ -48,8 +48,7 @@ impl Record {
 
     /// Fills in an Offer of the own entry to the leader of a handover.
     pub(crate) fn offer(&self, leader: u8, out: &mut Message) -> Option<Depots>
-        requires low { leader < max_depots }
-        requires fine { Readable (mail_of self.now Offer (mark leader) leader (own_entry self.now ∷ [])) }
+        requires { Readable (mail_of self.now Offer (mark leader) leader (own_entry self.now ∷ [])) }
         ensures { Posted (mail_of self.now Offer (mark leader) leader (own_entry self.now ∷ [])) result out.old out.new }
     {
         self.say(

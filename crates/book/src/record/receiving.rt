@@ -19,26 +19,19 @@ use letters::{Fault, Kind, Letter, Message, entries_in, read};
 use policies::{Policy, share_of};
 use protocol::{Refusal, Standing, Step, Whom, decide};
 
-/// The entries that a letter carries, in a place of their own.
-fn entries_of(letter: Letter<'_>) -> Entries
-    requires { Lawful (letter_says letter) }
-    ensures { result ≡ entries_in (entry_part letter.entry) }
-{
-    match letter {
-        Letter::Offer(_, bytes) | Letter::List(_, bytes) => entries_in(bytes),
-        _ => Entries::empty(),
-    }
-}
-
 /// A letter that was read as a message of its own, which does not refer to the caller's bytes any more.
 fn owned(letter: Letter<'_>) -> Message
     requires { Lawful (letter_says letter) }
     ensures { message_says result ≡ letter_says letter.entry }
 {
+    let entries = match letter {
+        Letter::Offer(_, bytes) | Letter::List(_, bytes) => entries_in(bytes),
+        _ => Entries::empty(),
+    };
     Message {
         kind: letter.kind(),
         head: letter.head(),
-        entries: entries_of(letter),
+        entries,
     }
 }
 

@@ -36,6 +36,7 @@ impl Rows {
     }
 
     /// Puts a row in place of a leader's.
+    // asked, and no type of leaders: a letter's leader is a byte, which only the letter's or the record's law bounds
     pub(crate) fn put(&mut self, leader: u8, row: Row)
         requires { leader < max_depots }
         ensures { rows_of self.new.of ≡ upd (rows_of self.old.of) leader (row_of row) }

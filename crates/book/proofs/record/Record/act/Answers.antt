@@ -14,7 +14,6 @@ use Rattle.book.specs.Sharing.{policy_of}
 use Rattle.book.specs.View.{site, view, own_entry}
 use Rattle.book.specs.Calls.{StepGrounds}
 use Rattle.book.proofs.Answering.{call_refused, call_served}
-use Rattle.book.proofs.Carrying.{leader_low}
 use Rattle.book.proofs.Gathering.{offered_gathered}
 use Rattle.book.proofs.Listing.{listed_now}
 use Rattle.book.proofs.Stepping.{law_after, said_fine, step_is, may_settle, is_settled}
@@ -44,22 +43,8 @@ join-requires g c =
     let m = message_says c.args.letter.now in
     law_after c.requires.sound (step_is P c.args.strikes m (site r) (view r) c.in-Join.is)
 
-pub offer-requires-clause-low : goal.offer-requires-clause-low
-offer-requires-clause-low g c =
-    let r = c.args.self.now in
-    let P = policy_of g.P.Policy in
-    let m = message_says c.args.letter.now in
-    leader_low c.args.letter.now
-
-pub offer-requires-in-OfferAgain-clause-low : goal.offer-requires-in-OfferAgain-clause-low
-offer-requires-in-OfferAgain-clause-low g c =
-    let r = c.args.self.now in
-    let P = policy_of g.P.Policy in
-    let m = message_says c.args.letter.now in
-    leader_low c.args.letter.now
-
-pub offer-requires-clause-fine : goal.offer-requires-clause-fine
-offer-requires-clause-fine g c =
+pub offer-requires : goal.offer-requires
+offer-requires g c =
     let r = c.args.self.now in
     let P = policy_of g.P.Policy in
     let m = message_says c.args.letter.now in
@@ -69,8 +54,8 @@ offer-requires-clause-fine g c =
     (said_fine c.requires.sound kinds.Offer m.leader (own_entry r ∷ []) (step_is P c.args.strikes m (site r) (view r) c.in-Join.is)
     c.join.ensures.same c.join.ensures.state refl)
 
-pub offer-requires-in-OfferAgain-clause-fine : goal.offer-requires-in-OfferAgain-clause-fine
-offer-requires-in-OfferAgain-clause-fine g c =
+pub offer-requires-in-OfferAgain : goal.offer-requires-in-OfferAgain
+offer-requires-in-OfferAgain g c =
     let r = c.args.self.now in
     let P = policy_of g.P.Policy in
     let m = message_says c.args.letter.now in
