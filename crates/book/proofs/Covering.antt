@@ -1,7 +1,7 @@
 -- A set that covers the depots on a list has each of them.
 use Rattle.std.proofs.Common.{◌≡◌, ℕ, ltb, List, Decides, sym, ap, ◌∙◌}
 use mathlib.Core.Path.{fun_ext}
-use Rattle.std.proofs.lemmas.Bool.Decides.{same_from_decides}
+use Rattle.std.proofs.lemmas.Bool.Decides.{same_from_decides, nat_tests}
 use Rattle.entries.specs.declared.lists.Entry.{Entry}
 use Rattle.entries.specs.Sets.{has, covers, everyone}
 use Rattle.entries.specs.Lists.{names}
@@ -23,3 +23,6 @@ covers_every set es = same_from_decides _ _ (covers_within set (names es)) (each
 -- all of them are depots of a set
 pub everyone_every : (n : ℕ) (es : List Entry) → every es (has (everyone n)) ≡ every es (λ x. ltb x n)
 everyone_every n es = ap (every es) (fun_ext (has_everyone n))
+
+-- what accepting a list rests on
+pub ruleset accepting = (nat_tests, everyone_every)

@@ -4,7 +4,7 @@ use Rattle.std.proofs.Common.{◌≡◌, ℕ, zero, suc, ◌<◌, ◌≤◌, Lis
 use mathlib.Core.Path.{fun_ext}
 use mathlib.Core.Logic.{∥∥₁_elim, ∥∥₁_map}
 use denote.Struct.Props.{props}
-use Rattle.std.proofs.lemmas.List.{get_or-set_same, get_or-set_other}
+use Rattle.std.proofs.lemmas.List.{get_or-set_same, get_or-set_other, get_or-take}
 use Rattle.policies.specs.Shares.{level}
 use Rattle.policies.specs.Dealt.{level_lawful}
 use Rattle.protocol.specs.Policy.{Policy}
@@ -67,6 +67,9 @@ row_set rs L r h =
       | inl u ↦ ap row_of (ap (λ y. get_or (set rs L r) y blank_row) u.0 ∙ get_or-set_same rs L r blank_row h) ∙ sym u.1
       | inr u ↦ ap row_of (get_or-set_other rs L x r blank_row u.0) ∙ sym u.1
     ])
+
+-- what reading and changing rows rests on
+pub ruleset row_steps = (row_set, get_or-take)
 
 -- the rows of a new record
 all_blank : (k L : ℕ) → get_or (replicate k blank_row) L blank_row ≡ blank_row

@@ -5,6 +5,7 @@ pub mod Answering
 pub mod Plain
 pub mod Mailing
 pub mod Written
+pub mod Stock
 pub mod Outcomes
 pub mod Listing
 pub mod Shares

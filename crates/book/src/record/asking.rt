@@ -23,6 +23,7 @@ fn covering(list: &[Entry], own: Entry) -> Option<Entry>
 
 impl Record {
     /// The others on the record's list; nobody where the depot is bound to none.
+    #[tactic(auto, using(crate::proofs::Listing::list_depots))]
     pub(crate) fn others(&self) -> Depots
         ensures { result.0 ≡ others (site self.now) (view self.now).list }
     {

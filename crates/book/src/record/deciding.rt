@@ -21,6 +21,7 @@ use policies::Policy;
 use protocol::{Refusal, Situation, Standing};
 
 /// Whether a depot tells by a letter of the kind that its handover has ended.
+#[tactic(auto, unfolding(protocol::specs::Taking::tells_end))]
 fn tells_end(kind: Kind) -> bool
     ensures { result ≡ tells_end kind }
 {
@@ -28,6 +29,7 @@ fn tells_end(kind: Kind) -> bool
 }
 
 /// Whether a set has all depots on a list.
+#[tactic(auto, using(crate::proofs::Covering::covers_every))]
 pub(crate) fn has_all(set: Depots, list: &[Entry]) -> bool
     requires { AllByRecursion (λ e. e.depot < max_depots) list.now }
     ensures { result ≡ every list.now (has set.0) }
@@ -78,6 +80,7 @@ impl Record {
     }
 
     /// Where the depot stands in the handover of a letter: nowhere in a new one.
+    #[tactic(auto, unfolding(protocol::specs::State::pick, protocol::specs::Taking::newer))]
     pub(crate) fn standing_in(&self, letter: &Message) -> Standing
         ensures { standing_number result ≡ standing_in (view self.now) (message_says letter.now) }
     {
@@ -89,6 +92,7 @@ impl Record {
     }
 
     /// Whether a letter strikes its sender from those owing: it tells the leader that its handover has ended.
+    #[tactic(auto, using(protocol::proofs::LawfulLists::kind_back), unfolding(protocol::specs::Taking::strikes))]
     pub(crate) fn strikes(&self, letter: &Message) -> bool
         ensures { result ≡ strikes (site self.now) (message_says letter.now) }
     {
@@ -97,6 +101,7 @@ impl Record {
 
     /// Whether the depot can accept a list: it names only depots of the set, has the leader, and has the own entry as
     /// shelf and wish are.
+    #[tactic(auto, using(crate::proofs::Covering::accepting))]
     fn can_accept(&self, leader: u8, list: &[Entry]) -> bool
         requires { AllByRecursion (λ e. e.depot < max_depots) list.now }
         ensures { (y n : ℕ) → result ≡ acceptable_list (site self.now) (view self.now) leader y n list.now }

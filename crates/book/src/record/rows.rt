@@ -37,6 +37,7 @@ impl Rows {
 
     /// Puts a row in place of a leader's.
     // asked, and no type of leaders: a letter's leader is a byte, which only the letter's or the record's law bounds
+    #[tactic(auto, using(crate::proofs::Kept::row_steps))]
     pub(crate) fn put(&mut self, leader: u8, row: Row)
         requires { leader < max_depots }
         ensures { rows_of self.new.of ≡ upd (rows_of self.old.of) leader (row_of row) }
@@ -56,6 +57,7 @@ impl Rows {
 
 impl Record {
     /// The rows of the set's depots.
+    #[tactic(auto, using(crate::proofs::Kept::row_steps), unfolding(crate::specs::Fields::rows_of))]
     fn rows(&self) -> &[Row]
         ensures length { length result.now ≡ (site self.now).n }
         ensures rows { (L : ℕ) → L < (site self.now).n → rows_of result.now L ≡ (view self.now).rows L }
@@ -64,6 +66,7 @@ impl Record {
     }
 
     /// Whether the depot is engaged in a handover.
+    #[tactic(auto, using(crate::proofs::Engaged::engaged_is))]
     pub fn engaged(&self) -> bool
         ensures { result ≡ engaged (site self.now) (view self.now) }
     {
@@ -71,6 +74,7 @@ impl Record {
     }
 
     /// The leader in whose row the depot is engaged, 0 where it is engaged in none.
+    #[tactic(auto, using(crate::proofs::Engaged::leader_is))]
     pub(crate) fn leader(&self) -> u8
         ensures { result ≡ leader (site self.now) (view self.now) }
     {

@@ -13,6 +13,7 @@ impl Record {
     /// Takes `n` pieces off the shelf.
     ///
     /// Refuses `n` outside 1 to 1,000,000 (7), an engaged depot (8), a shelf below `n` (9).
+    #[tactic(auto, using(crate::proofs::Stock::stock_steps), unfolding(protocol::specs::Own::issue))]
     pub fn issue(&mut self, n: u32) -> Result<(), Refusal>
         ensures { Moved (λ a s. issue a s n) result self.old self.new }
     {
@@ -32,6 +33,7 @@ impl Record {
     /// The book's Return: adds `n` pieces to the shelf, or to the tray while the depot is engaged.
     ///
     /// Refuses `n` outside 1 to 1,000,000 (7), then shelf, tray and `n` together above 1,000,000,000 (10).
+    #[tactic(auto, using(crate::proofs::Stock::stock_steps), unfolding(protocol::specs::Own::give_back))]
     pub fn give_back(&mut self, n: u32) -> Result<(), Refusal>
         ensures { Moved (λ a s. give_back a s n) result self.old self.new }
     {
@@ -52,6 +54,7 @@ impl Record {
     /// Sets the wish.
     ///
     /// Refuses `n` above 1,000,000 (11), an engaged depot (8).
+    #[tactic(auto, using(crate::proofs::Stock::stock_steps), unfolding(protocol::specs::Own::set_wish))]
     pub fn set_wish(&mut self, n: u32) -> Result<(), Refusal>
         ensures { Moved (λ a s. set_wish a s n) result self.old self.new }
     {
