@@ -41,41 +41,47 @@ module _ (P : Policy) (a : Site) (s : State) (m : Contents) where
   unfolding take pick
   ungoverned g = grind (arith, nat_tests)
 
+  -- what the tests before the numbers told, and the number in the leader's row
+  pub record Addressed (known : ℕ) : Type 0 where
+    pub own : m.code ≡ a.code
+    pub governs : eqb a.code P.code ≡ true
+    pub to : has m.to a.depot ≡ true
+    pub sender : m.sender < a.n
+    pub leader : m.leader < a.n
+    pub other : m.sender ≡ a.depot → ⊥
+    pub row : known ≡ (s.rows m.leader).number
+
   module _ (own : m.code ≡ a.code) (governs : eqb a.code P.code ≡ true) where
     pub unaddressed : has m.to a.depot ≡ false → take P a s m ≡ refuses (handover 29)
     unfolding take pick
     unaddressed t = grind (arith, nat_tests)
 
-    module _ (to : has m.to a.depot ≡ true) where
-      pub no_sender : (a.n ≤ m.sender)
-          ⊎ (((m.sender < a.n) × (a.n ≤ m.leader))
-          ⊎ ((m.sender < a.n) × (m.leader < a.n) × (m.sender ≡ a.depot)))
-          → take P a s m ≡ refuses (handover 30)
-      unfolding take pick
-      no_sender e = grind (arith, nat_tests)
+    pub no_sender : has m.to a.depot ≡ true → (a.n ≤ m.sender)
+        ⊎ (((m.sender < a.n) × (a.n ≤ m.leader))
+        ⊎ ((m.sender < a.n) × (m.leader < a.n) × (m.sender ≡ a.depot)))
+        → take P a s m ≡ refuses (handover 30)
+    unfolding take pick
+    no_sender to e = grind (arith, nat_tests)
 
-      module _ (sender : m.sender < a.n) (leader : m.leader < a.n) (other : m.sender ≡ a.depot → ⊥) where
-        abbrev known : ℕ
-        known = (s.rows m.leader).number
+  module _ {known : ℕ} (is : Addressed known) where
+    pub passed : m.number < known → take P a s m ≡ refuses (handover 31)
+    unfolding take pick
+    passed n = grind (arith, nat_tests)
 
-        pub passed : m.number < known → take P a s m ≡ refuses (handover 31)
-        unfolding take pick
-        passed n = grind (arith, nat_tests)
+    pub unknown : known < m.number → asks (kind_of m.kind) ≡ false → take P a s m ≡ refuses (handover 32)
+    unfolding take pick newer
+    unknown n k = grind (arith, nat_tests)
 
-        pub unknown : known < m.number → asks (kind_of m.kind) ≡ false → take P a s m ≡ refuses (handover 32)
-        unfolding take pick newer
-        unknown n k = grind (arith, nat_tests)
+    pub engaged_already : known < m.number → asks (kind_of m.kind) ≡ true → engaged a s ≡ true
+        → take P a s m ≡ refuses (handover 8)
+    unfolding take pick newer
+    engaged_already n k e = grind (arith, nat_tests)
 
-        pub engaged_already : known < m.number → asks (kind_of m.kind) ≡ true → engaged a s ≡ true
-            → take P a s m ≡ refuses (handover 8)
-        unfolding take pick newer
-        engaged_already n k e = grind (arith, nat_tests)
+    pub admitted_new : known < m.number → asks (kind_of m.kind) ≡ true → engaged a s ≡ false
+        → take P a s m ≡ lined P m a s
+    unfolding take pick newer
+    admitted_new n k e = grind (arith, nat_tests)
 
-        pub admitted_new : known < m.number → asks (kind_of m.kind) ≡ true → engaged a s ≡ false
-            → take P a s m ≡ lined P m a s
-        unfolding take pick newer
-        admitted_new n k e = grind (arith, nat_tests)
-
-        pub admitted : known ≤ m.number → m.number ≤ known → take P a s m ≡ lined P m a s
-        unfolding take pick newer
-        admitted n k = grind (arith, nat_tests)
+    pub admitted : known ≤ m.number → m.number ≤ known → take P a s m ≡ lined P m a s
+    unfolding take pick newer
+    admitted n k = grind (arith, nat_tests)

@@ -20,7 +20,7 @@ use Rattle.protocol.specs.State.{pick, Site, State, pair, others, stocked, hears
 use Rattle.protocol.specs.Outcome.{Outcome, serves, after, sends, mail}
 use Rattle.protocol.specs.Steps.{concluded}
 use Rattle.book.specs.declared.record.Record.{Record}
-use Rattle.book.specs.View.{site, view}
+use Rattle.book.specs.View.{site, view, mail_of}
 use Rattle.book.specs.Calls.{at, stepped, Sound, Posted, Called, Sent}
 use Rattle.book.proofs.Answering.{call_served}
 use Rattle.book.proofs.Kept.{any_policy, own_calls}
@@ -44,6 +44,23 @@ module _ {a : Site} {s : State} {o : Outcome} (ok : ∥ Keeps a s o ∥₁) wher
 pub sound_by : (call : Site → State → Outcome) (r : Record)
     → (CallsKeep any_policy (site r) (view r) → Keeps (site r) (view r) (at call r)) → Sound call r
 sound_by call r keeps = ∥∥₁_map r.kept (λ law. keeps (own_calls (site r) (view r) law))
+
+-- a call that is served: it leaves this record, and sends this letter of it
+pub record Says (call : Site → State → Outcome) (r t : Record) (k : Kind) (to L : ℕ) (es : List Entry) : Type 0 where
+  pub served : at call r ≡ serves (view t) (mail_of t k to L es)
+  pub same : site t ≡ site r
+
+module _ {call : Site → State → Outcome} {r t : Record} {k : Kind} {L : ℕ} {es : List Entry} where
+  pub says : {u : State} {to to' : ℕ} → at call r ≡ serves u (mail (site r) u k to L es) → site t ≡ site r → view t ≡ u
+      → to' ≡ to → Says call r t k to' L es
+  says q e f g = record { served = cc; same = e }
+
+  pub says_fine : {to : ℕ} → Sound call r → Says call r t k to L es → Readable (mail_of t k to L es)
+  says_fine ok q = readable_after ok q.served
+
+  pub says_done : {to : ℕ} {x : Sent} {lent left : Message} → Says call r t k to L es
+      → Posted (mail_of t k to L es) x lent left → Called call (Ok x) r t lent left
+  says_done q h = call_served q.served refl q.same h
 
 -- a step that leaves a record and then sends a letter of it
 pub step_said : {call : Site → State → Outcome} {r t : Record} {u : State} {to to' : ℕ} {x : Sent}

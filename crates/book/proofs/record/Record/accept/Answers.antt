@@ -1,84 +1,53 @@
-use Rattle.std.proofs.Common.{[], sym, ap, ◌∙◌, ap₂}
-use Rattle.entries.specs.Lists.{names}
-use Rattle.entries.specs.Sets.{less, mark, add, has}
+use Rattle.std.proofs.Common.{false, []}
 use Rattle.letters.specs.declared.letter.Kind.TheVariants as kinds
 use Rattle.letters.specs.Writing.{message_says}
-use Rattle.protocol.specs.Listing.{every}
-use Rattle.policies.specs.Shares.{share_of}
+use Rattle.protocol.specs.declared.step.Step.TheVariants as steps
+use Rattle.book.specs.Calls.{stepped}
 use Rattle.book.specs.Sharing.{policy_of}
-use Rattle.book.specs.View.{site, view}
 use Rattle.book.proofs.Carrying.{leader_low}
-use Rattle.book.proofs.Stepping.{law_after, said_fine, step_said, may_settle, is_settled, may_bind, is_bound, accept_settles, accept_binds}
+use Rattle.book.proofs.Stepping.{Says, law_after, says, says_fine, says_done, may_settle, is_settled, may_bind, is_bound, accept_settles, accept_binds}
+use Rattle.book.proofs.record.Record.accept.Given.{Over}
+use Rattle.book.proofs.record.Record.accept.Goals.{After-without-to, After-mark-2}
 use Rattle.book.proofs.record.Record.accept.Goals as goal
 
 pub settle-requires : goal.settle-requires
 settle-requires g c =
-    let r = c.args.self.now in
-    let P = policy_of g.P.Policy in
     let m = message_says c.args.letter.now in
-    let list = c.as_slice-list.ensures.list in
-    let pair = c.with.ensures ∙ ap (λ s. add s m.leader) c.mark.ensures in
-    let all = sym (c.has_all.ensures ∙ ap₂ (λ es s. every es (has s)) list pair) ∙ c.if-has_all.true in
-    let share = c.share_of-share.ensures ∙ ap (λ es. share_of P.share es r.identity.depot) list in
-    may_settle P m.leader m.entries r share (law_after c.requires.sound (accept_settles P m (site r) (view r) all))
+    may_settle (policy_of g.P.Policy) m.leader m.entries c.args.self.now (cc)
+    (law_after c.requires.sound (accept_settles (policy_of g.P.Policy) m _ _ (cc)))
+
+settles : (g : Over) (c : After-without-to g)
+    → Says (stepped (policy_of g.P.Policy) false (message_says c.args.letter.now) steps.Accept) c.args.self.now
+    c.settle.new.self kinds.Settle c.without-to.result.0 c.args.letter.now.head.leader []
+settles g c =
+    let m = message_says c.args.letter.now in
+    says (accept_settles (policy_of g.P.Policy) m _ _ (cc)) c.settle.ensures.same
+    (is_settled (policy_of g.P.Policy) m.leader m.entries c.args.self.now (cc) c.settle.ensures.state) (cc)
 
 pub say-requires : goal.say-requires
-say-requires g c =
-    let r = c.args.self.now in
-    let P = policy_of g.P.Policy in
-    let m = message_says c.args.letter.now in
-    let list = c.as_slice-list.ensures.list in
-    let pair = c.with.ensures ∙ ap (λ s. add s m.leader) c.mark.ensures in
-    let all = sym (c.has_all.ensures ∙ ap₂ (λ es s. every es (has s)) list pair) ∙ c.if-has_all.true in
-    let share = c.share_of-share.ensures ∙ ap (λ es. share_of P.share es r.identity.depot) list in
-    let to = c.without-to.ensures ∙ ap (λ s. less s (mark r.identity.depot)) (c.names_of.ensures ∙ ap names list) in
-    said_fine c.requires.sound kinds.Settle m.leader [] (accept_settles P m (site r) (view r) all) c.settle.ensures.same
-    (is_settled P m.leader m.entries r share c.settle.ensures.state) to
+say-requires g c = says_fine c.requires.sound (settles g (goal.at.say-requires g c).After-without-to)
 
 pub returns-then-has_all : goal.returns-then-has_all
-returns-then-has_all g c =
-    let r = c.args.self.now in
-    let P = policy_of g.P.Policy in
-    let m = message_says c.args.letter.now in
-    let list = c.as_slice-list.ensures.list in
-    let pair = c.with.ensures ∙ ap (λ s. add s m.leader) c.mark.ensures in
-    let all = sym (c.has_all.ensures ∙ ap₂ (λ es s. every es (has s)) list pair) ∙ c.if-has_all.true in
-    let share = c.share_of-share.ensures ∙ ap (λ es. share_of P.share es r.identity.depot) list in
-    let to = c.without-to.ensures ∙ ap (λ s. less s (mark r.identity.depot)) (c.names_of.ensures ∙ ap names list) in
-    step_said kinds.Settle m.leader [] (accept_settles P m (site r) (view r) all) c.settle.ensures.same
-    (is_settled P m.leader m.entries r share c.settle.ensures.state) to c.say.ensures
+returns-then-has_all g c = says_done (settles g (goal.at.returns-then-has_all g c).After-without-to) c.say.ensures
 
 pub bind-requires-clause-lawful : goal.bind-requires-clause-lawful
 bind-requires-clause-lawful g c =
-    let r = c.args.self.now in
-    let P = policy_of g.P.Policy in
     let m = message_says c.args.letter.now in
-    let list = c.as_slice-list.ensures.list in
-    let pair = c.with.ensures ∙ ap (λ s. add s m.leader) c.mark.ensures in
-    let wait = sym (c.has_all.ensures ∙ ap₂ (λ es s. every es (has s)) list pair) ∙ c.if-has_all.false in
-    may_bind m.leader r list (law_after c.requires.sound (accept_binds P m (site r) (view r) wait))
+    may_bind m.leader c.args.self.now (cc) (law_after c.requires.sound (accept_binds _ m _ _ (cc)))
 
 pub mark-requires-2 : goal.mark-requires-2
 mark-requires-2 g c = leader_low c.args.letter.now
 
-pub say-requires-2 : goal.say-requires-2
-say-requires-2 g c =
-    let r = c.args.self.now in
-    let P = policy_of g.P.Policy in
+binds : (g : Over) (c : After-mark-2 g)
+    → Says (stepped (policy_of g.P.Policy) false (message_says c.args.letter.now) steps.Accept) c.args.self.now
+    c.bind.new.self kinds.Yes c.mark-2.result.0 c.args.letter.now.head.leader []
+binds g c =
     let m = message_says c.args.letter.now in
-    let list = c.as_slice-list.ensures.list in
-    let pair = c.with.ensures ∙ ap (λ s. add s m.leader) c.mark.ensures in
-    let wait = sym (c.has_all.ensures ∙ ap₂ (λ es s. every es (has s)) list pair) ∙ c.if-has_all.false in
-    said_fine c.requires.sound kinds.Yes m.leader [] (accept_binds P m (site r) (view r) wait) c.bind.ensures.same
-    (is_bound m.leader r list c.bind.ensures.state) c.mark-2.ensures
+    says (accept_binds _ m _ _ (cc)) c.bind.ensures.same (is_bound m.leader c.args.self.now (cc) c.bind.ensures.state)
+    c.mark-2.ensures
+
+pub say-requires-2 : goal.say-requires-2
+say-requires-2 g c = says_fine c.requires.sound (binds g (goal.at.say-requires-2 g c).After-mark-2)
 
 pub returns : goal.returns
-returns g c =
-    let r = c.args.self.now in
-    let P = policy_of g.P.Policy in
-    let m = message_says c.args.letter.now in
-    let list = c.as_slice-list.ensures.list in
-    let pair = c.with.ensures ∙ ap (λ s. add s m.leader) c.mark.ensures in
-    let wait = sym (c.has_all.ensures ∙ ap₂ (λ es s. every es (has s)) list pair) ∙ c.if-has_all.false in
-    step_said kinds.Yes m.leader [] (accept_binds P m (site r) (view r) wait) c.bind.ensures.same
-    (is_bound m.leader r list c.bind.ensures.state) c.mark-2.ensures c.say-2.ensures
+returns g c = says_done (binds g (goal.at.returns g c).After-mark-2) c.say-2.ensures

@@ -3,7 +3,9 @@ use Rattle.std.proofs.lemmas.Bool.{not-true, not-false}
 use Rattle.letters.specs.Writing.{message_says}
 use Rattle.book.specs.Sharing.{policy_of}
 use Rattle.book.specs.View.{site, view}
-use Rattle.book.proofs.Admitting.{asks_now, other_code, ungoverned, unaddressed, no_sender, passed, unknown, engaged_already, admitted_new, admitted}
+use Rattle.book.proofs.Admitting.{Addressed, asks_now, other_code, ungoverned, unaddressed, no_sender, passed, unknown, engaged_already, admitted_new, admitted}
+use Rattle.book.proofs.record.Record.admit.Given.{Over}
+use Rattle.book.proofs.record.Record.admit.Goals.{After-row-known}
 use Rattle.book.proofs.record.Record.admit.Goals as goal
 use Rattle.book.proofs.record.Record.admit.Goals.{then-head-own-via-then-head-own, then-head-own-via-else-head-own+then-not-governs}
 
@@ -34,54 +36,41 @@ returns-then-head-own-2 g c =
     no_sender P (site r) (view r) m c.if-head-own.false (sym c.governs.ensures ∙ c.if-not-governs.false)
     (sym c.contains.ensures ∙ c.if-not-contains.false) c.then-head-own-2.either
 
+addressed : (g : Over) (c : After-row-known g)
+    → Addressed (policy_of g.P.Policy) (site c.args.self.now) (view c.args.self.now) (message_says c.args.letter.now)
+    c.row-known.result.number
+addressed g c =
+    record {
+      own = c.if-head-own.false;
+      governs = sym c.governs.ensures ∙ c.if-not-governs.false;
+      to = sym c.contains.ensures ∙ c.if-not-contains.false;
+      sender = c.if-head-own-2.false;
+      leader = c.if-head-own-3.false;
+      other = c.if-head-own-4.false;
+      row = ap (λ x. x.number) c.row-known.ensures;
+    }
+
 pub returns-then-head-known : goal.returns-then-head-known
 returns-then-head-known g c =
-    let r = c.args.self.now in
-    let P = policy_of g.P.Policy in
-    let m = message_says c.args.letter.now in
-    let n = ap (λ x. x.number) c.row-known.ensures in
-    passed P (site r) (view r) m c.if-head-own.false (sym c.governs.ensures ∙ c.if-not-governs.false)
-    (sym c.contains.ensures ∙ c.if-not-contains.false) c.if-head-own-2.false c.if-head-own-3.false c.if-head-own-4.false
-    (omega arith)
+    passed _ _ _ _ (addressed g (goal.at.returns-then-head-known g c).After-row-known) (omega arith)
 
 pub returns-then-ne : goal.returns-then-ne
 returns-then-ne g c =
-    let r = c.args.self.now in
-    let P = policy_of g.P.Policy in
-    let m = message_says c.args.letter.now in
-    let n = ap (λ x. x.number) c.row-known.ensures in
-    unknown P (site r) (view r) m c.if-head-own.false (sym c.governs.ensures ∙ c.if-not-governs.false)
-    (sym c.contains.ensures ∙ c.if-not-contains.false) c.if-head-own-2.false c.if-head-own-3.false c.if-head-own-4.false
-    (omega arith) (asks_now c.args.letter.now.kind ∙ not-true _ (sym c.ne.ensures ∙ c.if-ne.true))
+    unknown _ _ _ _ (addressed g (goal.at.returns-then-ne g c).After-row-known) (omega arith)
+    (asks_now c.args.letter.now.kind ∙ not-true _ (sym c.ne.ensures ∙ c.if-ne.true))
 
 pub returns-then-engaged : goal.returns-then-engaged
 returns-then-engaged g c =
-    let r = c.args.self.now in
-    let P = policy_of g.P.Policy in
-    let m = message_says c.args.letter.now in
-    let n = ap (λ x. x.number) c.row-known.ensures in
-    engaged_already P (site r) (view r) m c.if-head-own.false (sym c.governs.ensures ∙ c.if-not-governs.false)
-    (sym c.contains.ensures ∙ c.if-not-contains.false) c.if-head-own-2.false c.if-head-own-3.false c.if-head-own-4.false
-    (omega arith) (asks_now c.args.letter.now.kind ∙ not-false _ (sym c.ne.ensures ∙ c.if-ne.false))
+    engaged_already _ _ _ _ (addressed g (goal.at.returns-then-engaged g c).After-row-known) (omega arith)
+    (asks_now c.args.letter.now.kind ∙ not-false _ (sym c.ne.ensures ∙ c.if-ne.false))
     (sym c.engaged.ensures ∙ c.if-engaged.true)
 
 pub returns-else-engaged : goal.returns-else-engaged
 returns-else-engaged g c =
-    let r = c.args.self.now in
-    let P = policy_of g.P.Policy in
-    let m = message_says c.args.letter.now in
-    let n = ap (λ x. x.number) c.row-known.ensures in
-    admitted_new P (site r) (view r) m c.if-head-own.false (sym c.governs.ensures ∙ c.if-not-governs.false)
-    (sym c.contains.ensures ∙ c.if-not-contains.false) c.if-head-own-2.false c.if-head-own-3.false c.if-head-own-4.false
-    (omega arith) (asks_now c.args.letter.now.kind ∙ not-false _ (sym c.ne.ensures ∙ c.if-ne.false))
+    admitted_new _ _ _ _ (addressed g (goal.at.returns-else-engaged g c).After-row-known) (omega arith)
+    (asks_now c.args.letter.now.kind ∙ not-false _ (sym c.ne.ensures ∙ c.if-ne.false))
     (sym c.engaged.ensures ∙ c.if-engaged.false)
 
 pub returns-else-known-head : goal.returns-else-known-head
 returns-else-known-head g c =
-    let r = c.args.self.now in
-    let P = policy_of g.P.Policy in
-    let m = message_says c.args.letter.now in
-    let n = ap (λ x. x.number) c.row-known.ensures in
-    admitted P (site r) (view r) m c.if-head-own.false (sym c.governs.ensures ∙ c.if-not-governs.false)
-    (sym c.contains.ensures ∙ c.if-not-contains.false) c.if-head-own-2.false c.if-head-own-3.false c.if-head-own-4.false
-    (omega arith) (omega arith)
+    admitted _ _ _ _ (addressed g (goal.at.returns-else-known-head g c).After-row-known) (omega arith) (omega arith)

@@ -6,15 +6,19 @@ use Rattle.entries.specs.declared.lists.Entry.{Entry}
 use Rattle.entries.specs.Limits.{max_depots}
 use Rattle.entries.proofs.Width.{as_many_marks}
 use Rattle.letters.specs.declared.letter.Kind.TheVariants as kinds
-use Rattle.protocol.specs.State.{upd, pick, Row}
+use Rattle.protocol.specs.State.{upd, pick, rest, Row}
+use Rattle.protocol.specs.Outcome.{serves, mail}
 use Rattle.protocol.specs.Own.{led, lead}
 use Rattle.book.specs.declared.record.Record.{Record}
+use Rattle.book.specs.Calls.{at}
+use Rattle.book.specs.Fields.{rows_of}
 use Rattle.book.specs.View.{site, view, own_entry}
 use Rattle.book.proofs.Kept.{written_kept, number_high}
 use Rattle.book.proofs.Answering.{call_refused}
 use Rattle.book.proofs.Stepping.{sound_by, law_after, said_fine, step_said}
 use Rattle.book.proofs.Written.{make, state_is}
 use Rattle.book.proofs.Outcomes.{leads}
+use Rattle.book.proofs.record.Record.lead.Goals.{After-of-self}
 use Rattle.book.proofs.record.Record.lead.Goals as goal
 
 -- a sum that is none does not fit
@@ -62,32 +66,37 @@ returns-in_default c =
     let last : ((view r).rows r.identity.depot).number ≡ 4294967295 = grind arith in
     call_refused (grind (arith, nat_tests))
 
+leads_now : (c : After-of-self)
+    → at lead c.args.self.now ≡ serves (led (site c.args.self.now) (view c.args.self.now))
+    (mail (site c.args.self.now) (led (site c.args.self.now) (view c.args.self.now)) kinds.Ask (rest (site c.args.self.now))
+    c.args.self.now.identity.depot [])
+leads_now c =
+    let same = ap (λ x. x.number) c.row.ensures in
+    let fits = c.in-Some.ensures.0 in
+    leads _ _ (sym c.engaged.ensures ∙ c.if-engaged.false) (sym c.is_empty.ensures ∙ c.if-not-is_empty.false)
+    (λ e. omega arith) (omega arith) (λ e. omega arith)
+
+written : (c : After-of-self) → make c.args.self.now.shelf c.args.self.now.tray c.args.self.now.wish
+    (rows_of c.put.new.self.of) (view c.args.self.now).list (view c.args.self.now).heard c.of-self.result
+    (view c.args.self.now).owing ≡ led (site c.args.self.now) (view c.args.self.now)
+written c =
+    let r = c.args.self.now in
+    led_now r (c.put.ensures ∙ ap (at_number r) c.in-Some.ensures.1) (ap (λ x. x.number) c.row.ensures) c.of-self.ensures
+    c.own_entry-own.ensures
+
 pub invariant_of-self-clause-kept : goal.invariant_of-self-clause-kept
 invariant_of-self-clause-kept c =
     let r = c.args.self.now in
-    let (fits, is) = c.in-Some.ensures in
-    let same = ap (λ x. x.number) c.row.ensures in
-    let q = leads (site r) (view r) (sym c.engaged.ensures ∙ c.if-engaged.false)
-    (sym c.is_empty.ensures ∙ c.if-not-is_empty.false) (λ e. omega arith) (omega arith) (λ e. omega arith) in
-    let e = led_now r (c.put.ensures ∙ ap (at_number r) is) same c.of-self.ensures c.own_entry-own.ensures in
-    written_kept (site r) _ _ e (law_after (sound_by lead r (λ k. k.lead)) q)
+    let h = (goal.at.invariant_of-self-clause-kept c).After-of-self in
+    written_kept (site r) _ _ (written h) (law_after (sound_by lead r (λ k. k.lead)) (leads_now h))
 
 pub say-requires : goal.say-requires
 say-requires c =
     let r = c.args.self.now in
-    let (fits, is) = c.in-Some.ensures in
-    let same = ap (λ x. x.number) c.row.ensures in
-    let q = leads (site r) (view r) (sym c.engaged.ensures ∙ c.if-engaged.false)
-    (sym c.is_empty.ensures ∙ c.if-not-is_empty.false) (λ e. omega arith) (omega arith) (λ e. omega arith) in
-    let e = led_now r (c.put.ensures ∙ ap (at_number r) is) same c.of-self.ensures c.own_entry-own.ensures in
-    said_fine (sound_by lead r (λ k. k.lead)) kinds.Ask r.identity.depot [] q refl e c.rest-to.ensures
+    let h = (goal.at.say-requires c).After-of-self in
+    said_fine (sound_by lead r (λ k. k.lead)) kinds.Ask r.identity.depot [] (leads_now h) refl (written h) c.rest-to.ensures
 
 pub returns : goal.returns
 returns c =
-    let r = c.args.self.now in
-    let (fits, is) = c.in-Some.ensures in
-    let same = ap (λ x. x.number) c.row.ensures in
-    let q = leads (site r) (view r) (sym c.engaged.ensures ∙ c.if-engaged.false)
-    (sym c.is_empty.ensures ∙ c.if-not-is_empty.false) (λ e. omega arith) (omega arith) (λ e. omega arith) in
-    let e = led_now r (c.put.ensures ∙ ap (at_number r) is) same c.of-self.ensures c.own_entry-own.ensures in
-    step_said kinds.Ask r.identity.depot [] q refl e c.rest-to.ensures c.say.ensures
+    let h = (goal.at.returns c).After-of-self in
+    step_said kinds.Ask c.args.self.now.identity.depot [] (leads_now h) refl (written h) c.rest-to.ensures c.say.ensures
