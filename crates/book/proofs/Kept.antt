@@ -8,6 +8,7 @@ use Rattle.std.proofs.lemmas.List.{get_or-set_same, get_or-set_other, get_or-tak
 use Rattle.policies.specs.Shares.{level}
 use Rattle.policies.specs.Dealt.{level_lawful}
 use Rattle.protocol.specs.Policy.{Policy}
+use Rattle.entries.proofs.Width.{as_many_marks}
 use Rattle.entries.specs.Limits.{max_depots}
 use Rattle.protocol.specs.State.{upd, Site, Row, State}
 use Rattle.protocol.specs.Outcome.{Outcome, after}
@@ -69,7 +70,7 @@ row_set rs L r h =
     ])
 
 -- what reading and changing rows rests on
-pub ruleset row_steps = (row_set, get_or-take)
+pub ruleset row_steps = (as_many_marks, row_set, get_or-take)
 
 -- the rows of a new record
 all_blank : (k L : ℕ) → get_or (replicate k blank_row) L blank_row ≡ blank_row

@@ -1,7 +1,4 @@
 // The plain parts of a record.
-ghost use Rattle.std.specs.Prelude.{◌≡◌, length};
-ghost use Rattle.entries.specs.Limits.{max_depots};
-
 use entries::PLACES;
 use protocol::Standing;
 
@@ -19,11 +16,11 @@ pub(crate) const BLANK_ROW: Row = Row {
 };
 
 /// One row for each leader.
-// an array in an inner struct is a form that the rules name, and a record allocates nothing
+// an array in an inner struct is a form that the project names, and a record allocates nothing
+// not one type with `Shares`: rows have calls of their own, and shares are plain numbers
 #[derive(Clone, Copy)]
 pub struct Rows {
     pub of: [Row; PLACES],
-    ghost one_each: { length of ≡ max_depots },
 }
 
 /// What never changes in a record: which depot it is, of how many, and under which policy's code.

@@ -117,10 +117,8 @@ impl Record {
         ensures { result ≡ fits_gathered (view self.now).gathered offered.now }
     {
         let gathered = self.gathered.as_slice();
-        match offered.first() {
-            Some(entry) => !on_list(gathered, entry.depot) && may_hold(gathered, entry.shelf),
-            None => false,
-        }
+        offered.first().is_some_and(|entry| !on_list(gathered, entry.depot)
+            && may_hold(gathered, entry.shelf))
     }
 
     /// What the guards of the lines ask about a letter.

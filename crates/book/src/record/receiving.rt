@@ -20,6 +20,7 @@ use policies::{Policy, share_of};
 use protocol::{Refusal, Standing, Step, Whom, decide};
 
 /// A letter that was read as a message of its own, which does not refer to the caller's bytes any more.
+// no `From`: it asks that the letter is lawful, which reading promises and the letter's type does not say
 fn owned(letter: Letter<'_>) -> Message
     requires { Lawful (letter_says letter) }
     ensures { message_says result ≡ letter_says letter.entry }
@@ -93,7 +94,7 @@ impl Record {
     }
 
     /// Carries out a step that a letter calls for.
-    // a step is an enum, and not a closure: the rules name the form, a match over letter kind and standing
+    // a step is an enum, and not a closure: the contract of `decide` and what carrying out means speak of it
     fn act<P: Policy>(
         &mut self,
         step: Step,

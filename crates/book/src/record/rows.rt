@@ -46,6 +46,7 @@ impl Rows {
     }
 
     /// Has the depot stand there in the row of a leader, whose number stays.
+    #[tactic(auto, using(entries::proofs::Width::as_many_marks))]
     pub(crate) fn stand(&mut self, leader: u8, at: Standing)
         requires { leader < max_depots }
         ensures { rows_of self.new.of ≡ upd (rows_of self.old.of) leader
@@ -74,7 +75,8 @@ impl Record {
     }
 
     /// The leader in whose row the depot is engaged, 0 where it is engaged in none.
-    #[tactic(auto, using(crate::proofs::Engaged::leader_is))]
+    // no Option: 0 is what the definition says too, and each caller looks at the row that is named
+    #[tactic(auto, using(crate::proofs::Engaged::leader_is, entries::proofs::Width::as_many_marks))]
     pub(crate) fn leader(&self) -> u8
         ensures { result ≡ leader (site self.now) (view self.now) }
     {

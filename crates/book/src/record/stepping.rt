@@ -16,6 +16,7 @@ use protocol::Standing;
 
 impl Record {
     /// Strikes the sender of a letter from those owing, where the letter tells that its handover has ended.
+    // no test at the call: the definition is of every letter, and the contract says both cases at once
     pub(crate) fn strike(&mut self, strikes: bool, sender: u8)
         ensures { Becomes (λ s. owed (pick strikes (less s.owing (mark sender)) s.owing) s) self.old self.new }
     {

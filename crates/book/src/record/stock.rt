@@ -1,5 +1,7 @@
 // Pieces taken and brought back, and the wish.
-ghost use Rattle.protocol.specs.Own.{issue, give_back, set_wish};
+ghost use Rattle.std.specs.Prelude.{◌≡◌, if◌then◌else◌, Ok, Err};
+ghost use Rattle.protocol.specs.declared.refusal.Refusal.TheVariants.{PiecesOutside};
+ghost use Rattle.protocol.specs.Own.{outside, issue, give_back, set_wish};
 ghost use Rattle.book.specs.Calls.{Moved};
 
 use crate::record::Record;
@@ -9,6 +11,17 @@ use protocol::Refusal;
 /// The most pieces that one call moves.
 const MAX_AMOUNT: u32 = 1_000_000;
 
+/// Refuses a number of pieces outside 1 to 1,000,000 (7).
+#[tactic(auto, using(crate::proofs::Stock::stock_steps))]
+fn check_amount(n: u32) -> Result<(), Refusal>
+    ensures { result ≡ (if outside n then Err PiecesOutside else Ok tt) }
+{
+    if !(1..=MAX_AMOUNT).contains(&n) {
+        return Err(Refusal::PiecesOutside);
+    }
+    Ok(())
+}
+
 impl Record {
     /// Takes `n` pieces off the shelf.
     ///
@@ -17,9 +30,7 @@ impl Record {
     pub fn issue(&mut self, n: u32) -> Result<(), Refusal>
         ensures { Moved (λ a s. issue a s n) result self.old self.new }
     {
-        if n < 1 || n > MAX_AMOUNT {
-            return Err(Refusal::PiecesOutside);
-        }
+        check_amount(n)?;
         if self.engaged() {
             return Err(Refusal::Engaged);
         }
@@ -37,9 +48,7 @@ impl Record {
     pub fn give_back(&mut self, n: u32) -> Result<(), Refusal>
         ensures { Moved (λ a s. give_back a s n) result self.old self.new }
     {
-        if n < 1 || n > MAX_AMOUNT {
-            return Err(Refusal::PiecesOutside);
-        }
+        check_amount(n)?;
         if self.shelf + self.tray + n > MAX_POOL {
             return Err(Refusal::StockTooGreat);
         }
