@@ -4,6 +4,7 @@ use policies::Level;
 use protocol::Refusal;
 
 /// Whether the answer is a refusal with this number.
+// by number, as kinds and standings in these tests are: the numbers are the book's, and what others are told
 pub(crate) fn refused<T: Drop>(answer: Result<T, Refusal>, number: u8) -> bool {
     answer.is_err_and(|refusal| refusal.number() == number)
 }

@@ -1,12 +1,12 @@
-// The message that writing takes.
+// The message that writing takes, and that a letter becomes once it is taken in.
 ghost use Rattle.letters.specs.Contents.{Lawful};
 ghost use Rattle.letters.specs.Code.{kind_number, says};
 
 use crate::{Head, Kind};
 use entries::Entries;
 
-/// A letter to be written, without a reference to other bytes: a depot fills it in a place that its caller lends. It is
-/// always lawful: it holds only values that reading accepts.
+/// A letter without a reference to other bytes: one to be written, which a depot fills in a place that its caller lends,
+/// or one that was read. It is always lawful: it holds only values that reading accepts.
 #[derive(Drop)]
 pub struct Message {
     pub kind: Kind,

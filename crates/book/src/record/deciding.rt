@@ -99,15 +99,16 @@ impl Record {
         tells_end(letter.kind) && letter.head.leader == self.identity.depot
     }
 
-    /// Whether the depot can accept a list: it names only depots of the set, has the leader, and has the own entry as
-    /// shelf and wish are.
+    /// Whether the depot can accept the list of a letter: it names only depots of the set, has the leader, and has the
+    /// own entry as shelf and wish are.
     #[tactic(auto, using(crate::proofs::Covering::accepting))]
-    fn can_accept(&self, leader: u8, list: &[Entry]) -> bool
-        requires { AllByRecursion (λ e. e.depot < max_depots) list.now }
-        ensures { (y n : ℕ) → result ≡ acceptable_list (site self.now) (view self.now) leader y n list.now }
+    fn can_accept(&self, letter: &Message) -> bool
+        ensures { result ≡ acceptable_list (site self.now) (view self.now) letter.now.head.leader
+            letter.now.head.sender letter.now.head.number letter.now.entries }
     {
+        let list = letter.entries.as_slice();
         has_all(Depots::everyone(self.identity.depots), list)
-            && on_list(list, leader)
+            && on_list(list, letter.head.leader)
             && fits(list, self.own_entry())
     }
 
@@ -132,7 +133,7 @@ impl Record {
             from_leader: head.sender == head.leader,
             to_leader: head.leader == self.identity.depot,
             from_listed: on_list(self.list.as_slice(), head.sender),
-            acceptable: self.can_accept(head.leader, entries),
+            acceptable: self.can_accept(letter),
             gatherable: self.can_gather(entries),
         }
     }

@@ -16,11 +16,6 @@ told p q x y z =
 same_told : (p q : Bool) {x x' y y' z z' : Bool} → x ≡ x' → y ≡ y' → z ≡ z' → told p q x y z ≡ told p q x' y' z'
 same_told p q e f g = cc
 
-pub can_accept-requires : goal.can_accept-requires
-can_accept-requires c =
-    subst (λ es. AllByRecursion (λ e. e.depot < max_depots) es) (sym c.as_slice-entries.ensures.list)
-    (entries_low c.args.letter.now)
-
 pub returns : goal.returns
 unfolding told
 returns c =
@@ -28,6 +23,5 @@ returns c =
     let h = c.args.letter.now.head in
     let l = c.as_slice-entries.ensures.list in
     same_told _ _ (c.on_list.ensures ∙ ap (λ es. on es h.sender) c.as_slice.ensures.list)
-    (c.can_accept.ensures h.sender h.number
-    ∙ ap (acceptable_list (site r) (view r) h.leader h.sender h.number) l)
+    c.can_accept.ensures
     (c.can_gather.ensures ∙ ap (fits_gathered (view r).gathered) l)
