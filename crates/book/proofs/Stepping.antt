@@ -9,6 +9,7 @@ use Rattle.letters.specs.declared.letter.Kind.{Kind}
 use Rattle.letters.specs.declared.letter.Kind.TheVariants as kinds
 use Rattle.letters.specs.declared.message.Message.{Message}
 use Rattle.letters.specs.Contents.{Contents}
+use Rattle.letters.specs.Writing.{message_says}
 use Rattle.protocol.specs.declared.step.Step.{Step}
 use Rattle.protocol.specs.declared.step.Step.TheVariants as steps
 use Rattle.policies.specs.Shares.{share_of}
@@ -128,6 +129,6 @@ module _ (P : Policy) (m : Contents) (a : Site) (s : State) where
   hear_waits e = rw e refl
 
 -- the outcome of a step that is known
-pub step_is : (P : Policy) (b : Bool) (m : Contents) (a : Site) (s : State) {x y : Step} → x ≡ y
-    → stepped P b m x a s ≡ stepped P b m y a s
-step_is P b m a s e = ap (λ z. stepped P b m z a s) e
+pub step_is : (P : Policy) (b : Bool) (letter : Message) (a : Site) (s : State) {x y : Step} → x ≡ y
+    → stepped P b (message_says letter) x a s ≡ stepped P b (message_says letter) y a s
+step_is P b letter a s e = ap (λ z. stepped P b (message_says letter) z a s) e

@@ -23,83 +23,67 @@ pub returns-in-Unlined : goal.returns-in-Unlined
 unfolding pick
 returns-in-Unlined g c =
     let r = c.args.self.now in
-    let P = policy_of g.P.Policy in
     let m = message_says c.args.letter.now in
     call_served {s = view r} {m = none}
-    (step_is P c.args.strikes m (site r) (view r) c.in-Unlined.is ∙ rw c.if-strikes.true refl) refl refl refl
+    (step_is _ _ c.args.letter.now _ _ c.in-Unlined.is ∙ rw c.if-strikes.true refl) refl refl refl
 
 pub returns-in-Unlined-2 : goal.returns-in-Unlined-2
 unfolding pick
 returns-in-Unlined-2 g c =
-    let r = c.args.self.now in
-    let P = policy_of g.P.Policy in
-    let m = message_says c.args.letter.now in
-    call_refused (step_is P c.args.strikes m (site r) (view r) c.in-Unlined-2.is ∙ rw c.if-strikes.false refl)
+    call_refused (step_is _ _ c.args.letter.now _ _ c.in-Unlined-2.is ∙ rw c.if-strikes.false refl)
 
 pub join-requires : goal.join-requires
 join-requires g c =
-    let r = c.args.self.now in
-    let P = policy_of g.P.Policy in
-    let m = message_says c.args.letter.now in
-    law_after c.requires.sound (step_is P c.args.strikes m (site r) (view r) c.in-Join.is)
+    law_after c.requires.sound (step_is _ _ c.args.letter.now _ _ c.in-Join.is)
 
 pub offer-requires : goal.offer-requires
 offer-requires g c =
     let r = c.args.self.now in
-    let P = policy_of g.P.Policy in
     let m = message_says c.args.letter.now in
     let t = c.join.new.self in
     let same : own_entry t ≡ own_entry r = ap₂ own c.join.ensures.same c.join.ensures.state in
     subst (λ e. Readable (mail (site t) (view t) kinds.Offer (mark m.leader) m.leader (e ∷ []))) (sym same)
-    (said_fine c.requires.sound kinds.Offer m.leader (own_entry r ∷ []) (step_is P c.args.strikes m (site r) (view r) c.in-Join.is)
+    (said_fine c.requires.sound kinds.Offer m.leader (own_entry r ∷ []) (step_is _ _ c.args.letter.now _ _ c.in-Join.is)
     c.join.ensures.same c.join.ensures.state refl)
 
 pub offer-requires-in-OfferAgain : goal.offer-requires-in-OfferAgain
 offer-requires-in-OfferAgain g c =
     let r = c.args.self.now in
-    let P = policy_of g.P.Policy in
     let m = message_says c.args.letter.now in
-    said_fine c.requires.sound kinds.Offer m.leader (own_entry r ∷ []) (step_is P c.args.strikes m (site r) (view r) c.in-OfferAgain.is) refl refl refl
+    said_fine c.requires.sound kinds.Offer m.leader (own_entry r ∷ []) (step_is _ _ c.args.letter.now _ _ c.in-OfferAgain.is) refl refl refl
 
 pub gather-requires-clause-lawful : goal.gather-requires-clause-lawful
 gather-requires-clause-lawful g c =
     let r = c.args.self.now in
-    let P = policy_of g.P.Policy in
     let m = message_says c.args.letter.now in
     let list = c.as_slice.ensures.list in
     let grounds = subst (StepGrounds m (view r)) c.in-Gather.is c.requires.grounds in
     let fits = subst (λ es. fits_gathered (view r).gathered es ≡ true) (sym list) grounds in
     law_after c.requires.sound
-    (step_is P c.args.strikes m (site r) (view r) c.in-Gather.is
+    (step_is _ _ c.args.letter.now _ _ c.in-Gather.is
     ∙ ap (λ es. serves (gathers es (view r)) none)
     (ap (gathered_with (view r).gathered) (sym list) ∙ offered_gathered (view r).gathered _ _ fits))
 
 pub accept-requires-clause-listed : goal.accept-requires-clause-listed
 accept-requires-clause-listed g c =
     let r = c.args.self.now in
-    let P = policy_of g.P.Policy in
     let m = message_says c.args.letter.now in
     listed_known _ (subst (StepGrounds m (view r)) c.in-Accept.is c.requires.grounds)
 
 pub say-requires : goal.say-requires
 say-requires g c =
-    let r = c.args.self.now in
-    let P = policy_of g.P.Policy in
     let m = message_says c.args.letter.now in
-    said_fine c.requires.sound c.in-Say.kind m.leader [] (step_is P c.args.strikes m (site r) (view r) c.in-Say.is) refl refl c.to_whom-to.ensures
+    said_fine c.requires.sound c.in-Say.kind m.leader [] (step_is _ _ c.args.letter.now _ _ c.in-Say.is) refl refl c.to_whom-to.ensures
 
 pub say-requires-in-Refuse : goal.say-requires-in-Refuse
 say-requires-in-Refuse g c =
-    let r = c.args.self.now in
-    let P = policy_of g.P.Policy in
     let m = message_says c.args.letter.now in
-    said_fine c.requires.sound kinds.No m.leader [] (step_is P c.args.strikes m (site r) (view r) c.in-Refuse.is) c.end.ensures.same c.end.ensures.state
+    said_fine c.requires.sound kinds.No m.leader [] (step_is _ _ c.args.letter.now _ _ c.in-Refuse.is) c.end.ensures.same c.end.ensures.state
     c.to_whom-to-in-Refuse.ensures
 
 pub share_of-share-requires : goal.share_of-share-requires
 share_of-share-requires g c =
     let r = c.args.self.now in
-    let P = policy_of g.P.Policy in
     let m = message_says c.args.letter.now in
     subst Listed (sym c.as_slice-in-Settle.ensures.list)
     (listed_now (site r) (view r) m.leader (subst (StepGrounds m (view r)) c.in-Settle.is c.requires.grounds) r.kept)
@@ -109,25 +93,19 @@ settle-requires g c =
     let r = c.args.self.now in
     let P = policy_of g.P.Policy in
     let m = message_says c.args.letter.now in
-    let share = c.share_of-share.ensures
-    ∙ ap (λ es. share_of P.share es r.identity.depot) c.as_slice-in-Settle.ensures.list in
-    may_settle P m.leader (view r).list r share
-    (law_after c.requires.sound (step_is P c.args.strikes m (site r) (view r) c.in-Settle.is))
+    may_settle P m.leader (view r).list r (cc)
+    (law_after c.requires.sound (step_is _ _ c.args.letter.now _ _ c.in-Settle.is))
 
 pub say-requires-in-Settle : goal.say-requires-in-Settle
 say-requires-in-Settle g c =
     let r = c.args.self.now in
     let P = policy_of g.P.Policy in
     let m = message_says c.args.letter.now in
-    let share = c.share_of-share.ensures
-    ∙ ap (λ es. share_of P.share es r.identity.depot) c.as_slice-in-Settle.ensures.list in
-    said_fine c.requires.sound c.in-Settle.kind m.leader [] (step_is P c.args.strikes m (site r) (view r) c.in-Settle.is) c.settle.ensures.same
-    (is_settled P m.leader (view r).list r share c.settle.ensures.state) c.to_whom-to-in-Settle.ensures
+    said_fine c.requires.sound c.in-Settle.kind m.leader [] (step_is _ _ c.args.letter.now _ _ c.in-Settle.is) c.settle.ensures.same
+    (is_settled P m.leader (view r).list r (cc) c.settle.ensures.state) c.to_whom-to-in-Settle.ensures
 
 pub say-requires-in-Drop : goal.say-requires-in-Drop
 say-requires-in-Drop g c =
-    let r = c.args.self.now in
-    let P = policy_of g.P.Policy in
     let m = message_says c.args.letter.now in
-    said_fine c.requires.sound c.in-Drop.kind m.leader [] (step_is P c.args.strikes m (site r) (view r) c.in-Drop.is) c.end-in-Drop.ensures.same
+    said_fine c.requires.sound c.in-Drop.kind m.leader [] (step_is _ _ c.args.letter.now _ _ c.in-Drop.is) c.end-in-Drop.ensures.same
     c.end-in-Drop.ensures.state c.to_whom-to-in-Drop.ensures
