@@ -23,7 +23,6 @@ pub returns-in-Unlined : goal.returns-in-Unlined
 unfolding pick
 returns-in-Unlined g c =
     let r = c.args.self.now in
-    let m = message_says c.args.letter.now in
     call_served {s = view r} {m = none}
     (step_is _ _ c.args.letter.now _ _ c.in-Unlined.is ∙ rw c.if-strikes.true refl) refl refl refl
 
@@ -33,8 +32,7 @@ returns-in-Unlined-2 g c =
     call_refused (step_is _ _ c.args.letter.now _ _ c.in-Unlined-2.is ∙ rw c.if-strikes.false refl)
 
 pub join-requires : goal.join-requires
-join-requires g c =
-    law_after c.requires.sound (step_is _ _ c.args.letter.now _ _ c.in-Join.is)
+join-requires g c = law_after c.requires.sound (step_is _ _ c.args.letter.now _ _ c.in-Join.is)
 
 pub offer-requires : goal.offer-requires
 offer-requires g c =
@@ -43,14 +41,15 @@ offer-requires g c =
     let t = c.join.new.self in
     let same : own_entry t ≡ own_entry r = ap₂ own c.join.ensures.same c.join.ensures.state in
     subst (λ e. Readable (mail (site t) (view t) kinds.Offer (mark m.leader) m.leader (e ∷ []))) (sym same)
-    (said_fine c.requires.sound kinds.Offer m.leader (own_entry r ∷ []) (step_is _ _ c.args.letter.now _ _ c.in-Join.is)
-    c.join.ensures.same c.join.ensures.state refl)
+    (said_fine c.requires.sound kinds.Offer m.leader (own_entry r ∷ [])
+    (step_is _ _ c.args.letter.now _ _ c.in-Join.is) c.join.ensures.same c.join.ensures.state refl)
 
 pub offer-requires-in-OfferAgain : goal.offer-requires-in-OfferAgain
 offer-requires-in-OfferAgain g c =
     let r = c.args.self.now in
     let m = message_says c.args.letter.now in
-    said_fine c.requires.sound kinds.Offer m.leader (own_entry r ∷ []) (step_is _ _ c.args.letter.now _ _ c.in-OfferAgain.is) refl refl refl
+    said_fine c.requires.sound kinds.Offer m.leader (own_entry r ∷ []) (step_is _ _ c.args.letter.now _ _ c.in-OfferAgain.is) refl
+    refl refl
 
 pub gather-requires-clause-lawful : goal.gather-requires-clause-lawful
 gather-requires-clause-lawful g c =
@@ -73,13 +72,14 @@ accept-requires-clause-listed g c =
 pub say-requires : goal.say-requires
 say-requires g c =
     let m = message_says c.args.letter.now in
-    said_fine c.requires.sound c.in-Say.kind m.leader [] (step_is _ _ c.args.letter.now _ _ c.in-Say.is) refl refl c.to_whom-to.ensures
+    said_fine c.requires.sound c.in-Say.kind m.leader [] (step_is _ _ c.args.letter.now _ _ c.in-Say.is) refl refl
+    c.to_whom-to.ensures
 
 pub say-requires-in-Refuse : goal.say-requires-in-Refuse
 say-requires-in-Refuse g c =
     let m = message_says c.args.letter.now in
-    said_fine c.requires.sound kinds.No m.leader [] (step_is _ _ c.args.letter.now _ _ c.in-Refuse.is) c.end.ensures.same c.end.ensures.state
-    c.to_whom-to-in-Refuse.ensures
+    said_fine c.requires.sound kinds.No m.leader [] (step_is _ _ c.args.letter.now _ _ c.in-Refuse.is)
+    c.end.ensures.same c.end.ensures.state c.to_whom-to-in-Refuse.ensures
 
 pub share_of-share-requires : goal.share_of-share-requires
 share_of-share-requires g c =
@@ -101,11 +101,12 @@ say-requires-in-Settle g c =
     let r = c.args.self.now in
     let P = policy_of g.P.Policy in
     let m = message_says c.args.letter.now in
-    said_fine c.requires.sound c.in-Settle.kind m.leader [] (step_is _ _ c.args.letter.now _ _ c.in-Settle.is) c.settle.ensures.same
-    (is_settled P m.leader (view r).list r (cc) c.settle.ensures.state) c.to_whom-to-in-Settle.ensures
+    said_fine c.requires.sound c.in-Settle.kind m.leader [] (step_is _ _ c.args.letter.now _ _ c.in-Settle.is)
+    c.settle.ensures.same (is_settled P m.leader (view r).list r (cc) c.settle.ensures.state)
+    c.to_whom-to-in-Settle.ensures
 
 pub say-requires-in-Drop : goal.say-requires-in-Drop
 say-requires-in-Drop g c =
     let m = message_says c.args.letter.now in
-    said_fine c.requires.sound c.in-Drop.kind m.leader [] (step_is _ _ c.args.letter.now _ _ c.in-Drop.is) c.end-in-Drop.ensures.same
-    c.end-in-Drop.ensures.state c.to_whom-to-in-Drop.ensures
+    said_fine c.requires.sound c.in-Drop.kind m.leader [] (step_is _ _ c.args.letter.now _ _ c.in-Drop.is)
+    c.end-in-Drop.ensures.same c.end-in-Drop.ensures.state c.to_whom-to-in-Drop.ensures

@@ -1,7 +1,5 @@
-use Rattle.std.proofs.Common.{◌≡◌, ◌<◌, sym, refl, ap, ◌∙◌, subst}
+use Rattle.std.proofs.Common.{◌≡◌, sym, refl, ap, ◌∙◌, subst, arith}
 use mathlib.Core.Logic.{∥∥₁_map}
-use Rattle.std.specs.List.{AllByRecursion}
-use Rattle.entries.specs.Limits.{max_depots}
 use Rattle.entries.specs.Sets.{less, mark}
 use Rattle.entries.specs.Lists.{names}
 use Rattle.letters.specs.declared.letter.Kind.TheVariants as kinds
@@ -17,10 +15,7 @@ use Rattle.book.proofs.Outcomes.{under, under_kept, proposes}
 use Rattle.book.proofs.record.Record.propose_gathered.Goals as goal
 
 pub names_of-requires : goal.names_of-requires
-names_of-requires c =
-    let r = c.args.self.now in
-    subst (λ es. AllByRecursion (λ e. e.depot < max_depots) es) (sym c.as_slice.ensures.list)
-    (gathered_depots (site r) (view r) r.kept)
+names_of-requires c = grind (arith, gathered_depots)
 
 pub invariant_of-self-clause-kept : goal.invariant_of-self-clause-kept
 invariant_of-self-clause-kept c =

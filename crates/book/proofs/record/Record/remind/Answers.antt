@@ -1,65 +1,46 @@
-use Rattle.std.proofs.Common.{◌<◌, [], sym, ap, ◌∙◌, subst, ap₂, arith}
-use Rattle.std.specs.List.{AllByRecursion}
+use Rattle.std.proofs.Common.{◌≡◌, [], arith}
 use Rattle.std.proofs.lemmas.Bool.Decides.{nat_tests}
-use Rattle.entries.specs.Limits.{max_depots}
-use Rattle.entries.specs.Lists.{names}
-use Rattle.entries.specs.Sets.{less}
 use Rattle.letters.specs.declared.letter.Kind.TheVariants as kinds
 use Rattle.protocol.specs.State.{pick}
 use Rattle.protocol.specs.Own.{again, remind}
+use Rattle.book.specs.Calls.{at}
 use Rattle.book.specs.View.{site, view}
 use Rattle.book.proofs.Answering.{call_refused}
 use Rattle.book.proofs.Listing.{gathered_depots, list_depots}
 use Rattle.book.proofs.Reminding.{again_fine, reminded, remind_gathering, remind_bound, remind_settled, remind_dropped}
+use Rattle.book.proofs.record.Record.remind.Goals.{After-minus, After-minus-in-Accepted}
 use Rattle.book.proofs.record.Record.remind.Goals as goal
 
 pub names_of-requires : goal.names_of-requires
-names_of-requires c =
-    let r = c.args.self.now in
-    subst (λ es. AllByRecursion (λ e. e.depot < max_depots) es) (sym c.as_slice-gathered.ensures.list)
-    (gathered_depots (site r) (view r) r.kept)
+names_of-requires c = grind (arith, gathered_depots)
+
+gathering : (c : After-minus) → at remind c.args.self.now
+    ≡ again (site c.args.self.now) (view c.args.self.now) kinds.Ask c.minus.result.0 []
+gathering c = let q = remind_gathering (site c.args.self.now) (view c.args.self.now) (omega arith) in cc
 
 pub again-requires : goal.again-requires
 again-requires c =
-    let r = c.args.self.now in
-    let named = c.names_of.ensures ∙ ap names c.as_slice-gathered.ensures.list in
-    let to = c.minus.ensures ∙ ap₂ less c.rest.ensures named in
-    again_fine (site r) (view r) kinds.Ask _ []
-    (remind_gathering (site r) (view r) (omega arith) ∙ ap (λ x. again (site r) (view r) kinds.Ask x []) (sym to))
-    r.kept
+    again_fine _ _ kinds.Ask _ [] (gathering (goal.at.again-requires c).After-minus) c.args.self.now.kept
 
 pub returns-in-Offered : goal.returns-in-Offered
-returns-in-Offered c =
-    let r = c.args.self.now in
-    let named = c.names_of.ensures ∙ ap names c.as_slice-gathered.ensures.list in
-    let to = c.minus.ensures ∙ ap₂ less c.rest.ensures named in
-    reminded kinds.Ask _ []
-    (remind_gathering (site r) (view r) (omega arith) ∙ ap (λ x. again (site r) (view r) kinds.Ask x []) (sym to))
-    c.again.ensures
+returns-in-Offered c = reminded kinds.Ask _ [] (gathering (goal.at.returns-in-Offered c).After-minus) c.again.ensures
 
 pub names_of-requires-in-Accepted : goal.names_of-requires-in-Accepted
-names_of-requires-in-Accepted c =
-    let r = c.args.self.now in
-    subst (λ es. AllByRecursion (λ e. e.depot < max_depots) es) (sym c.as_slice-list.ensures.list)
-    (list_depots (site r) (view r) r.kept)
+names_of-requires-in-Accepted c = grind (arith, list_depots)
+
+listing : (c : After-minus-in-Accepted) → at remind c.args.self.now
+    ≡ again (site c.args.self.now) (view c.args.self.now) kinds.List c.minus-in-Accepted.result.0
+    c.as_slice-list.result.now
+listing c = let q = remind_bound (site c.args.self.now) (view c.args.self.now) (omega arith) in cc
 
 pub again-requires-in-Accepted : goal.again-requires-in-Accepted
 again-requires-in-Accepted c =
-    let r = c.args.self.now in
-    let list = c.as_slice-list.ensures.list in
-    let to = c.minus-in-Accepted.ensures ∙ ap (λ x. less x r.heard.0) (c.names_of-in-Accepted.ensures ∙ ap names list) in
-    again_fine (site r) (view r) kinds.List _ _
-    (remind_bound (site r) (view r) (omega arith) ∙ ap₂ (again (site r) (view r) kinds.List) (sym to) (sym list))
-    r.kept
+    again_fine _ _ kinds.List _ _ (listing (goal.at.again-requires-in-Accepted c).After-minus-in-Accepted)
+    c.args.self.now.kept
 
 pub returns-in-Accepted : goal.returns-in-Accepted
 returns-in-Accepted c =
-    let r = c.args.self.now in
-    let list = c.as_slice-list.ensures.list in
-    let to = c.minus-in-Accepted.ensures ∙ ap (λ x. less x r.heard.0) (c.names_of-in-Accepted.ensures ∙ ap names list) in
-    reminded kinds.List _ _
-    (remind_bound (site r) (view r) (omega arith) ∙ ap₂ (again (site r) (view r) kinds.List) (sym to) (sym list))
-    c.again-in-Accepted.ensures
+    reminded kinds.List _ _ (listing (goal.at.returns-in-Accepted c).After-minus-in-Accepted) c.again-in-Accepted.ensures
 
 pub again-requires-in-Settled : goal.again-requires-in-Settled
 again-requires-in-Settled c =

@@ -1,11 +1,8 @@
-use Rattle.std.proofs.Common.{◌≡◌, ◌<◌, Bool, sym, ap, ◌∙◌, subst}
-use Rattle.std.specs.List.{AllByRecursion}
-use Rattle.entries.specs.Limits.{max_depots}
+use Rattle.std.proofs.Common.{◌≡◌, Bool, ap, ◌∙◌, arith}
 use Rattle.entries.specs.Lists.{on}
 use Rattle.protocol.specs.declared.step.Situation.{Situation}
 use Rattle.protocol.specs.Steps.{acceptable_list, fits_gathered}
 use Rattle.book.specs.View.{site, view}
-use Rattle.book.proofs.Carrying.{entries_low}
 use Rattle.book.proofs.record.Record.situation.Goals as goal
 
 -- a situation from its five answers
