@@ -5,7 +5,6 @@ use Rattle.entries.specs.Sets.{mark}
 use Rattle.entries.proofs.Known.{listed_known}
 use Rattle.letters.specs.declared.letter.Kind.TheVariants as kinds
 use Rattle.letters.specs.Writing.{message_says}
-use Rattle.policies.specs.Shares.{share_of}
 use Rattle.protocol.specs.State.{pick, own, gathers}
 use Rattle.protocol.specs.Outcome.{serves, mail}
 use Rattle.protocol.specs.Steps.{fits_gathered, gathered_with}
