@@ -140,34 +140,39 @@ module _ (letter : Message) where
   grounds_now a t (steps.Settle c v) law e g f i = past_new _ _ 2 (omega arith) (sym f ∙ g)
   grounds_now a t (steps.Drop c v) law e g f i = past_new _ _ 2 (omega arith) (sym f ∙ g)
 
-  module _ (P : Policy) (r r' : Record) {b : Bool} {x : Step} (same : site r' ≡ site r) (e : b ≡ strikes (site r) m)
-      (now : view r' ≡ owed (pick b (less (view r).owing (mark m.sender)) (view r).owing) (view r))
-      (f : x ≡ step_for (site r') (view r') m) where
+  -- a record that its sender is struck from, where it strikes, and the step that it calls for there
+  pub record Struck (r r' : Record) (b : Bool) (x : Step) : Type 0 where
+    pub same : site r' ≡ site r
+    pub strikes_it : b ≡ strikes (site r) m
+    pub now : view r' ≡ owed (pick b (less (view r).owing (mark m.sender)) (view r).owing) (view r)
+    pub step : x ≡ step_for (site r') (view r') m
+
+  module _ (P : Policy) {r r' : Record} {b : Bool} {x : Step} (is : Struck r r' b x) where
     -- the record is the one that the letter leaves with its sender struck
     struck_now : view r' ≡ struck (site r) (view r) m
-    struck_now = now ∙ ap (λ z. owed (pick z (less (view r).owing (mark m.sender)) (view r).owing) (view r)) e
+    struck_now = is.now ∙ ap (λ z. owed (pick z (less (view r).owing (mark m.sender)) (view r).owing) (view r)) is.strikes_it
 
     -- the step at the record with the sender struck comes to what the line comes to
     line_is : at (stepped P b m x) r' ≡ at (lined P m) r
     line_is =
-        ap (λ z. stepped P b m z (site r') (view r')) f
-        ∙ ap (λ z. stepped P b m (step_for z (view r') m) z (view r')) same
+        ap (λ z. stepped P b m z (site r') (view r')) is.step
+        ∙ ap (λ z. stepped P b m (step_for z (view r') m) z (view r')) is.same
         ∙ ap (λ z. stepped P b m (step_for (site r) z m) (site r) z) struck_now
         ∙ ap (λ z. stepped P z m (step_for (site r) (struck (site r) (view r) m) m) (site r)
-        (struck (site r) (view r) m)) e
+        (struck (site r) (view r) m)) is.strikes_it
 
     -- a letter that does not strike leaves the record as it was
     unstruck : b ≡ false → view r' ≡ view r
     unfolding pick
-    unstruck q = now ∙ rw q refl
+    unstruck q = is.now ∙ rw q refl
 
     -- carrying it out keeps the law and sends what can be read, since the line does
     pub sound_now : Sound (lined P m) r → Sound (stepped P b m x) r'
     sound_now ok =
         subst (λ o. ∥ Keeps (site r') (view r') o ∥₁) (sym line_is)
-        (subst (λ z. ∥ Keeps z (view r') (at (lined P m) r) ∥₁) (sym same)
+        (subst (λ z. ∥ Keeps z (view r') (at (lined P m) r) ∥₁) (sym is.same)
         (keeps_at (site r) (view r) (view r') (at (lined P m) r)
-        (subst (λ z. ∥ Law z (view r') ∥₁) same r'.kept) ok))
+        (subst (λ z. ∥ Law z (view r') ∥₁) is.same r'.kept) ok))
 
     -- and answers and leaves what the line does
     pub called_now : {res : Result Sent Refusal} {t : Record} {lent left : Message}
@@ -180,7 +185,7 @@ module _ (letter : Message) where
                 c.leaves.state
                 ∙ after_same P b m (site r') (view r') x (view r') (view r) unstruck
                 ∙ ap (after (view r)) line_is;
-            same = c.leaves.same ∙ same;
+            same = c.leaves.same ∙ is.same;
           };
         }
 

@@ -16,6 +16,7 @@ settle-requires g c =
     may_settle (policy_of g.P.Policy) m.leader m.entries c.args.self.now (cc)
     (law_after c.requires.sound (accept_settles (policy_of g.P.Policy) m _ _ (cc)))
 
+-- where all on the list are heard, it settles, and says so to the others
 settles : (g : Over) (c : After-without-to g)
     → Says (stepped (policy_of g.P.Policy) false (message_says c.args.letter.now) steps.Accept) c.args.self.now
     c.settle.new.self kinds.Settle c.without-to.result.0 c.args.letter.now.head.leader []
@@ -38,6 +39,7 @@ bind-requires-clause-lawful g c =
 pub mark-requires-2 : goal.mark-requires-2
 mark-requires-2 g c = leader_low c.args.letter.now
 
+-- otherwise it is bound, and says Yes to the leader
 binds : (g : Over) (c : After-mark-2 g)
     → Says (stepped (policy_of g.P.Policy) false (message_says c.args.letter.now) steps.Accept) c.args.self.now
     c.bind.new.self kinds.Yes c.mark-2.result.0 c.args.letter.now.head.leader []

@@ -47,8 +47,8 @@ pub offer-requires-in-OfferAgain : goal.offer-requires-in-OfferAgain
 offer-requires-in-OfferAgain g c =
     let r = c.args.self.now in
     let m = message_says c.args.letter.now in
-    said_fine c.requires.sound kinds.Offer m.leader (own_entry r ∷ []) (step_is _ _ c.args.letter.now _ _ c.in-OfferAgain.is) refl
-    refl refl
+    said_fine c.requires.sound kinds.Offer m.leader (own_entry r ∷ [])
+    (step_is _ _ c.args.letter.now _ _ c.in-OfferAgain.is) refl refl refl
 
 pub gather-requires-clause-lawful : goal.gather-requires-clause-lawful
 gather-requires-clause-lawful g c =

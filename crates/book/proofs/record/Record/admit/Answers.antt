@@ -36,6 +36,7 @@ returns-then-head-own-2 g c =
     no_sender P (site r) (view r) m c.if-head-own.false (sym c.governs.ensures ∙ c.if-not-governs.false)
     (sym c.contains.ensures ∙ c.if-not-contains.false) c.then-head-own-2.either
 
+-- what the tests told once the row is read
 addressed : (g : Over) (c : After-row-known g)
     → Addressed (policy_of g.P.Policy) (site c.args.self.now) (view c.args.self.now) (message_says c.args.letter.now)
     c.row-known.result.number

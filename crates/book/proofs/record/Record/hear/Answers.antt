@@ -32,6 +32,7 @@ settle-requires g c =
     may_settle (policy_of g.P.Policy) m.leader (view r).list r (cc)
     (law_after c.requires.sound (hear_settles (policy_of g.P.Policy) m (site r) (view r) (cc)))
 
+-- where all on the list are heard, it settles, and says so to the others
 settles : (g : Over) (c : After-settle g)
     → Says (stepped (policy_of g.P.Policy) false (message_says c.args.letter.now) steps.Hear) c.args.self.now
     c.settle.new.self kinds.Settle c.others-to.result.0 c.args.letter.now.head.leader []
@@ -47,6 +48,7 @@ say-requires g c = says_fine c.requires.sound (settles g (goal.at.say-requires g
 pub returns-then-has_all : goal.returns-then-has_all
 returns-then-has_all g c = says_done (settles g (goal.at.returns-then-has_all g c).After-settle) c.say.ensures
 
+-- otherwise it goes on hearing
 waits : (g : Over) (c : Else-has_all g)
     → at (stepped (policy_of g.P.Policy) false (message_says c.args.letter.now) steps.Hear) c.args.self.now
     ≡ serves (hears c.with-heard.result.0 (view c.args.self.now)) none

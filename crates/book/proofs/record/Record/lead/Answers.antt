@@ -66,23 +66,25 @@ returns-in_default c =
     let last : ((view r).rows r.identity.depot).number ≡ 4294967295 = grind arith in
     call_refused (grind (arith, nat_tests))
 
+-- what it comes to once no test refuses
 leads_now : (c : After-of-self)
     → at lead c.args.self.now ≡ serves (led (site c.args.self.now) (view c.args.self.now))
-    (mail (site c.args.self.now) (led (site c.args.self.now) (view c.args.self.now)) kinds.Ask (rest (site c.args.self.now))
-    c.args.self.now.identity.depot [])
+    (mail (site c.args.self.now) (led (site c.args.self.now) (view c.args.self.now)) kinds.Ask
+    (rest (site c.args.self.now)) c.args.self.now.identity.depot [])
 leads_now c =
     let same = ap (λ x. x.number) c.row.ensures in
     let fits = c.in-Some.ensures.0 in
     leads _ _ (sym c.engaged.ensures ∙ c.if-engaged.false) (sym c.is_empty.ensures ∙ c.if-not-is_empty.false)
     (λ e. omega arith) (omega arith) (λ e. omega arith)
 
+-- the record is written so
 written : (c : After-of-self) → make c.args.self.now.shelf c.args.self.now.tray c.args.self.now.wish
     (rows_of c.put.new.self.of) (view c.args.self.now).list (view c.args.self.now).heard c.of-self.result
     (view c.args.self.now).owing ≡ led (site c.args.self.now) (view c.args.self.now)
 written c =
     let r = c.args.self.now in
-    led_now r (c.put.ensures ∙ ap (at_number r) c.in-Some.ensures.1) (ap (λ x. x.number) c.row.ensures) c.of-self.ensures
-    c.own_entry-own.ensures
+    led_now r (c.put.ensures ∙ ap (at_number r) c.in-Some.ensures.1) (ap (λ x. x.number) c.row.ensures)
+    c.of-self.ensures c.own_entry-own.ensures
 
 pub invariant_of-self-clause-kept : goal.invariant_of-self-clause-kept
 invariant_of-self-clause-kept c =
@@ -94,7 +96,8 @@ pub say-requires : goal.say-requires
 say-requires c =
     let r = c.args.self.now in
     let h = (goal.at.say-requires c).After-of-self in
-    said_fine (sound_by lead r (λ k. k.lead)) kinds.Ask r.identity.depot [] (leads_now h) refl (written h) c.rest-to.ensures
+    said_fine (sound_by lead r (λ k. k.lead)) kinds.Ask r.identity.depot [] (leads_now h) refl (written h)
+    c.rest-to.ensures
 
 pub returns : goal.returns
 returns c =

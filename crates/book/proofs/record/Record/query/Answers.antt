@@ -16,6 +16,7 @@ returns-then-ne c =
     call_refused (query_refuses (site r) (view r) c.leader-leader.result c.leader-leader.ensures
     (stands_elsewhere _ Accepted c.standing.ensures (sym c.ne.ensures ∙ c.if-ne.true)))
 
+-- a bound depot asks the others on the list
 asks : (c : After-others-to)
     → Says query c.args.self.now c.args.self.now kinds.Query c.others-to.result.0 c.leader-leader.result []
 asks c =
@@ -24,7 +25,8 @@ asks c =
     (stands_still _ Accepted c.standing.ensures (sym c.ne.ensures ∙ c.if-ne.false))) refl refl c.others-to.ensures
 
 pub say-requires : goal.say-requires
-say-requires c = says_fine (sound_by query c.args.self.now (λ k. k.query)) (asks (goal.at.say-requires c).After-others-to)
+say-requires c =
+    says_fine (sound_by query c.args.self.now (λ k. k.query)) (asks (goal.at.say-requires c).After-others-to)
 
 pub returns : goal.returns
 returns c = says_done (asks (goal.at.returns c).After-others-to) c.say.ensures

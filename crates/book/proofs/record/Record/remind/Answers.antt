@@ -14,6 +14,7 @@ use Rattle.book.proofs.record.Record.remind.Goals as goal
 pub names_of-requires : goal.names_of-requires
 names_of-requires c = grind (arith, gathered_depots)
 
+-- whoever gathers asks those not gathered
 gathering : (c : After-minus) → at remind c.args.self.now
     ≡ again (site c.args.self.now) (view c.args.self.now) kinds.Ask c.minus.result.0 []
 gathering c = let q = remind_gathering (site c.args.self.now) (view c.args.self.now) (omega arith) in cc
@@ -28,6 +29,7 @@ returns-in-Offered c = reminded kinds.Ask _ [] (gathering (goal.at.returns-in-Of
 pub names_of-requires-in-Accepted : goal.names_of-requires-in-Accepted
 names_of-requires-in-Accepted c = grind (arith, list_depots)
 
+-- whoever is bound sends the list to those not heard
 listing : (c : After-minus-in-Accepted) → at remind c.args.self.now
     ≡ again (site c.args.self.now) (view c.args.self.now) kinds.List c.minus-in-Accepted.result.0
     c.as_slice-list.result.now

@@ -27,6 +27,7 @@ with-self-requires c =
     let k = stands _ Accepted c.standing-2.ensures (sym c.eq-2.ensures ∙ c.if-eq-2.true) in
     stood_low (site r) (view r) c.leader-leader.result (omega arith) r.kept
 
+-- a bound depot has heard itself and the leader
 bound_still : (c : After-with-self)
     → at restart c.args.self.now ≡ serves (hears c.with-self.result.0 (view c.args.self.now)) none
 bound_still c =

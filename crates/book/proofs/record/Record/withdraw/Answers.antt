@@ -17,6 +17,7 @@ returns-then-ne c =
     call_refused (withdraw_refuses (site r) (view r) c.leader-leader.result c.leader-leader.ensures
     (stands_elsewhere _ Offered c.standing.ensures (sym c.ne.ensures ∙ c.if-ne.true)))
 
+-- a leader drops its handover
 leading : (c : After-rest-to)
     → Says withdraw c.args.self.now c.end.new.self kinds.Drop c.rest-to.result.0 c.leader-leader.result []
 leading c =
@@ -27,11 +28,14 @@ leading c =
     (c.rest-to.ensures ∙ ap rest c.end.ensures.same)
 
 pub say-requires : goal.say-requires
-say-requires c = says_fine (sound_by withdraw c.args.self.now (λ k. k.withdraw)) (leading (goal.at.say-requires c).After-rest-to)
+say-requires c =
+    says_fine (sound_by withdraw c.args.self.now (λ k. k.withdraw))
+    (leading (goal.at.say-requires c).After-rest-to)
 
 pub returns-then-leader-self : goal.returns-then-leader-self
 returns-then-leader-self c = says_done (leading (goal.at.returns-then-leader-self c).After-rest-to) c.say.ensures
 
+-- another depot says No to the leader
 following : (c : After-mark)
     → Says withdraw c.args.self.now c.end.new.self kinds.No c.mark.result.0 c.leader-leader.result []
 following c =
@@ -43,7 +47,9 @@ following c =
     c.end.ensures.state c.mark.ensures
 
 pub say-requires-2 : goal.say-requires-2
-say-requires-2 c = says_fine (sound_by withdraw c.args.self.now (λ k. k.withdraw)) (following (goal.at.say-requires-2 c).After-mark)
+say-requires-2 c =
+    says_fine (sound_by withdraw c.args.self.now (λ k. k.withdraw))
+    (following (goal.at.say-requires-2 c).After-mark)
 
 pub returns : goal.returns
 returns c = says_done (following (goal.at.returns c).After-mark) c.say-2.ensures
