@@ -49,4 +49,5 @@ outside_is n = refl
 
 -- what these calls rest on
 pub ruleset stock_moves = (issue_kept, given_shelf, given_tray, wished)
+
 pub ruleset stock_steps = (nat_tests, pick_is, outside_is, moved_refused, moved_served, stock_moves)

@@ -1,8 +1,8 @@
-use Rattle.std.proofs.Common.{◌≡◌, Bool, ap, ◌∙◌, arith}
+use Rattle.std.proofs.Common.{◌≡◌, Bool, ap, ◌∙◌}
 use Rattle.entries.specs.Lists.{on}
 use Rattle.protocol.specs.declared.step.Situation.{Situation}
-use Rattle.protocol.specs.Steps.{acceptable_list, fits_gathered}
-use Rattle.book.specs.View.{site, view}
+use Rattle.protocol.specs.Steps.{fits_gathered}
+use Rattle.book.specs.View.{view}
 use Rattle.book.proofs.record.Record.situation.Goals as goal
 
 -- a situation from its five answers
