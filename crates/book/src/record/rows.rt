@@ -32,7 +32,10 @@ impl Rows {
     pub(crate) fn row(&self, leader: u8) -> Row
         ensures { row_of result ≡ rows_of self.now.of leader }
     {
-        self.of.get(leader as usize).copied().unwrap_or(BLANK_ROW)
+        self.of
+            .get(usize::from(leader))
+            .copied()
+            .unwrap_or(BLANK_ROW)
     }
 
     /// Puts a row in place of a leader's.
@@ -42,7 +45,7 @@ impl Rows {
         requires { leader < max_depots }
         ensures { rows_of self.new.of ≡ upd (rows_of self.old.of) leader (row_of row) }
     {
-        self.of[leader as usize] = row;
+        self.of[usize::from(leader)] = row;
     }
 
     /// Has the depot stand there in the row of a leader, whose number stays.
@@ -52,7 +55,7 @@ impl Rows {
         ensures { rows_of self.new.of ≡ upd (rows_of self.old.of) leader
             (record { number = (rows_of self.old.of leader).number; standing = standing_number at }) }
     {
-        self.of[leader as usize].standing = at;
+        self.of[usize::from(leader)].standing = at;
     }
 }
 
@@ -63,7 +66,7 @@ impl Record {
         ensures length { length result.now ≡ (site self.now).n }
         ensures rows { (L : ℕ) → L < (site self.now).n → rows_of result.now L ≡ (view self.now).rows L }
     {
-        &self.rows.of[..self.identity.depots as usize]
+        &self.rows.of[..usize::from(self.identity.depots)]
     }
 
     /// Whether the depot is engaged in a handover.

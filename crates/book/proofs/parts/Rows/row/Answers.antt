@@ -15,5 +15,7 @@ looked_up rs L (Some x) e h = get_or_read rs L x.now (grind (arith, nat_tests)) 
 pub returns : goal.returns
 unfolding rows_of
 returns c =
-    let found = looked_up c.args.self.now.of c.args.leader c.get.result c.get.ensures.lookup.0 c.get.ensures.lookup.1 in
+    let rs = c.args.self.now.of in
+    let found = looked_up rs c.from.result c.get.result c.get.ensures.lookup.0 c.get.ensures.lookup.1 in
     ap row_of (c.unwrap_or.ensures ∙ ap (λ r. unwrap_or r blank_row) c.copied.ensures ∙ found)
+    ∙ ap (λ L. row_of (get_or rs L blank_row)) c.from.ensures

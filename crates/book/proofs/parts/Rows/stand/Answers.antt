@@ -6,4 +6,4 @@ use Rattle.book.proofs.parts.Rows.stand.Goals as goal
 
 pub returns : goal.returns
 unfolding rows_of
-returns c = row_set c.args.self.now.of c.args.leader _ (omega (arith, as_many_marks))
+returns c = rw c.from.ensures (row_set c.args.self.now.of c.args.leader _ (omega (arith, as_many_marks)))
