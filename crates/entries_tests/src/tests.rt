@@ -186,3 +186,13 @@ fn a_count_past_the_place_stands_for_all_of_it(rt: HostRuntime) {
     );
     assert!(rt; place.as_slice() == &[entry(3, 1, 0); 16][0..16]);
 }
+
+#[test]
+fn a_clone_is_a_place_of_its_own(rt: HostRuntime) -> Result<(), Fail> {
+    let mut place = Entries::of(&[entry(2, 4, 5), entry(15, 9, 0)]);
+    let copy = place.clone()?;
+    place.insert(entry(3, 0, 0))?;
+    assert_eq!(rt; place.as_slice().len(), 3);
+    assert!(rt; copy.as_slice() == &[entry(2, 4, 5), entry(15, 9, 0)][0..2]);
+    Ok(())
+}
