@@ -4,7 +4,7 @@ use policies::Level;
 use protocol::Refusal;
 
 /// Whether the answer is a refusal with this number.
-// by number, as kinds and standings in these tests are: the numbers are the book's, and what others are told
+// by number, as kinds and standings here: the variant's name would be no plainer, and the book lists the numbers
 pub(crate) fn refused<T: Drop>(answer: Result<T, Refusal>, number: u8) -> bool {
     answer.is_err_and(|refusal| refusal.number() == number)
 }

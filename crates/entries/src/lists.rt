@@ -81,7 +81,7 @@ fn may_follow(next: &Entry, least: u8) -> bool
 fn rises(list: &[Entry]) -> bool
     ensures { Decides result (Orderly 0 list.now) }
 {
-    // no `all`: what an entry has to follow changes from one to the next
+    // no `all` or `windows`: what an entry has to follow changes, and the first has none before it
     let mut least = 0;
     for next in list {
         if !may_follow(next, least) {

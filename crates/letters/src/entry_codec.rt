@@ -46,6 +46,7 @@ pub(crate) fn refuse<T>(why: Unreadable, place: usize) -> Result<T, Unread>
 pub fn check_entry(bytes: &[u8], first: u32, owner: Option<u8>) -> Result<(), Unread>
     ensures { refusal_of result ≡ first_failed (one_entry_tests owner first bytes.now) }
 {
+    // `as`: the library has no `From<u32>` for usize
     let place = first as usize;
     let [m0, m1, depot, w0, w1, w2, s0, s1, s2, s3, ..] = bytes else {
         return refuse(Unreadable::Length, place);

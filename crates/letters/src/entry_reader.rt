@@ -44,6 +44,7 @@ impl<'a> Iterator for EntryReader<'a> {
     /// The next entry, with the place of its first byte; none where fewer bytes are left than an entry has.
     fn next(&mut self) -> Option<(usize, Entry)> {
         let entry = entry_at(self.bytes.get(self.offset..)?)?;
+        // `as`: the library has no `From<u32>` for usize
         let place = self.first as usize + self.offset;
         self.offset += ENTRY_LEN;
         Some((place, entry))

@@ -31,7 +31,7 @@ impl From<Mark> for u8 {
 }
 
 /// A reader over bytes: what is left to read.
-// No `impl Model`, tried: a struct with a lifetime that has one cannot be `Copy`, and callers may copy a reader.
+// no `impl Model`, tried: with one it could not be `Copy`, and callers, who may copy a reader, would be asked more
 #[derive(Clone, Copy)]
 pub struct Reader<'a> {
     rest: &'a [u8],

@@ -39,7 +39,7 @@ impl Rows {
     }
 
     /// Puts a row in place of a leader's.
-    // asked, and no type of leaders: a letter's leader is a byte, which only the letter's or the record's law bounds
+    // asked, and no type of leaders: each caller would make one for this call, out of what the letter's or record's law says
     #[tactic(auto, using(crate::proofs::Kept::row_steps))]
     pub(crate) fn put(&mut self, leader: u8, row: Row)
         requires { leader < max_depots }
@@ -83,6 +83,7 @@ impl Record {
     pub(crate) fn leader(&self) -> u8
         ensures { result ≡ leader (site self.now) (view self.now) }
     {
+        // `as`: a place among sixteen rows fits, and `TryFrom` would add a case that cannot happen
         engaged_in(self.rows()).unwrap_or(0) as u8
     }
 }
