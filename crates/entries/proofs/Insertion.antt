@@ -113,12 +113,8 @@ module _ (e : Entry) (es : List Entry) where
   is_taken absent room within = let f = lt-ltb (length es) max_depots room in rw (absent, f, within)
 
 -- a place that is not full has room for another entry
-pub room_left : (list items : List Entry) → list ≡ items → eqb (length items) 16 ≡ false → length items ≤ 16
-    → length list < max_depots
-room_left list items is apart fits =
-    let other = eqb-false (length items) 16 apart in
-    let same = ap length is in
-    omega (arith, as_many_marks)
+pub room_left : (list : List Entry) → (length list ≡ 16 → ⊥) → length list ≤ max_depots → length list < max_depots
+room_left list apart fits = omega (arith, as_many_marks)
 
 -- what putting an entry to a list leaves, where `list` is what was read of the place
 module _ (e : Entry) (list before : List Entry) (is : list ≡ before) where

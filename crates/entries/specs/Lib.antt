@@ -3,3 +3,4 @@ pub mod Sets
 pub mod Lists
 pub mod Laws
 pub mod Filling
+pub mod Place

@@ -1,6 +1,6 @@
 // Filling a place with entries, in rising order of their depots.
 ghost use Rattle.std.specs.Prelude.{◌≡◌, ℕ, ◌+◌, ◌<◌, ◌≤◌, Bool, not, List, [], ◌∷◌, ◌++◌, length, take, nat_le, nat_lt};
-ghost use Rattle.std.specs.List.{prefix_len};
+ghost use Rattle.std.specs.List.{insert as inserted, prefix_len};
 ghost use Rattle.entries.specs.declared.lists.Entry.{Entry};
 ghost use Rattle.entries.specs.Limits.{max_depots, max_pool};
 ghost use Rattle.entries.specs.Lists.{pool};
@@ -8,7 +8,6 @@ ghost use Rattle.entries.specs.Filling.{Inserted};
 
 use crate::lists::{Entry, MAX_POOL, on_list, pool_of};
 use crate::sets::MAX_DEPOTS;
-use arrayvec::ArrayVec;
 use std::marker::Model;
 
 /// How many entries a place has room for: one for each depot.
@@ -27,16 +26,28 @@ pub enum InsertRefusal {
 
 /// Entries in a place of their own, which has room for one of each depot and never allocates. A clause sees them as the
 /// list that they are.
-// no `Copy`, which the library's vector has not: `Entries::of(place.as_slice())` copies a place, and cannot fail
-#[derive(Clone, Drop)]
+// an array with a count, and no vector of the library's: those have no `Copy`, which callers may rely on
+#[derive(Clone, Copy)]
 pub struct Entries {
-    items: ArrayVec<Entry, PLACES>,
+    items: [Entry; PLACES],
+    count: usize,
 }
 
 impl Model for Entries {
+    ghost use Rattle.std.specs.Prelude.{List, take};
+    ghost use Rattle.entries.specs.declared.lists.Entry.{Entry};
+
     ghost Value = { List Entry };
 
-    ghost view = { λ place. place.items.items };
+    ghost use Rattle.entries.specs.Place.{Filled, filled, filled_back};
+
+    ghost view = { λ place. take place.count place.items };
+
+    ghost invariant = { Filled };
+
+    ghost inverse = { filled };
+
+    ghost inverse_ok = { filled_back };
 }
 
 /// Whether the shelves of a list may hold more pieces, and still keep within the limit.
@@ -51,9 +62,10 @@ fn place_for(list: &[Entry], depot: u8) -> usize
     ensures place { result ≡ prefix_len (λ e. not (nat_lt depot e.depot)) list.now }
     ensures within { result ≤ length list.now }
 {
-    list.iter()
-        .position(|next| depot < next.depot)
-        .unwrap_or(list.len())
+    match list.iter().position(|next| depot < next.depot) {
+        Some(place) => place,
+        None => list.len(),
+    }
 }
 
 impl Entries {
@@ -61,19 +73,39 @@ impl Entries {
     pub fn empty() -> Entries
         ensures { result ≡ [] }
     {
-        Entries::of(&[])
+        Entries {
+            items: [Entry::default(); PLACES],
+            count: 0,
+        }
     }
 
     /// A place with these entries, the first of them, as many as it has room for.
-    #[tactic(auto, using(crate::proofs::Width::as_many_marks))]
     pub fn of(list: &[Entry]) -> Entries
         ensures { result ≡ take max_depots list.now }
     {
-        let mut items = ArrayVec::new();
-        items
-            .try_extend_from_slice(&list[..list.len().min(PLACES)])
-            .unwrap();
-        Entries { items }
+        let mut place = Entries::empty();
+        place.refill(list);
+        place
+    }
+
+    /// Takes every entry out of the place.
+    pub fn clear(&mut self)
+        ensures { self.new ≡ [] }
+    {
+        // most places that are cleared are empty: a test costs less than the writing
+        if self.count > 0 {
+            *self = Entries::empty();
+        }
+    }
+
+    /// Puts these entries, the first of them, as many as there is room for, in place of those that stand there.
+    pub fn refill(&mut self, list: &[Entry])
+        ensures { self.new ≡ take max_depots list.now }
+    {
+        let count = list.len().min(PLACES);
+        self.clear();
+        self.items[..count].copy_from_slice(&list[..count]);
+        self.count = count;
     }
 
     /// The entries that stand in the place.
@@ -82,16 +114,23 @@ impl Entries {
         ensures list { result.now ≡ self.now }
         ensures few { length result.now ≤ max_depots }
     {
-        self.items.as_slice()
+        &self.items[..self.count]
+    }
+
+    /// A place with the first `count` of these entries. A count past their end stands for all of them.
+    pub fn counted(items: [Entry; PLACES], count: usize) -> Entries
+        ensures { result ≡ take count items }
+    {
+        Entries::of(&items[..count.min(PLACES)])
     }
 
     /// Puts an entry behind the others. Callers have counted that there is room.
-    #[tactic(auto, using(crate::proofs::Width::as_many_marks))]
+    #[tactic(auto, using(crate::proofs::Place::behind_all))]
     pub fn push(&mut self, entry: Entry)
         requires { length self.old < max_depots }
         ensures { self.new ≡ self.old ++ entry ∷ [] }
     {
-        self.items.push(entry);
+        self.put_at(self.as_slice().len(), entry);
     }
 
     /// Puts an entry where its depot comes in rising order. It refuses an entry whose depot is there already, then one
@@ -105,14 +144,25 @@ impl Entries {
         if on_list(list, entry.depot) {
             return Err(InsertRefusal::Present);
         }
-        if self.items.is_full() {
+        if list.len() == PLACES {
             return Err(InsertRefusal::Full);
         }
         if !may_hold(list, entry.shelf) {
             return Err(InsertRefusal::PastLimit);
         }
         let place = place_for(list, entry.depot);
-        self.items.insert(place, entry);
+        self.put_at(place, entry);
         Ok(())
+    }
+
+    // Puts an entry at a place: it is written behind the others, and those from the place on then move up by one.
+    fn put_at(&mut self, place: usize, entry: Entry)
+        requires within { place ≤ length self.old }
+        requires room { length self.old < max_depots }
+        ensures { self.new ≡ inserted self.old place entry }
+    {
+        self.items[self.count] = entry;
+        self.items[place..self.count + 1].rotate_right(1);
+        self.count += 1;
     }
 }

@@ -1,5 +1,5 @@
 use entries::{
-    Depots, Entries, Entry, InsertRefusal, MAX_POOL, MAX_WISH, entry_of, is_depot, is_list,
+    Depots, Entries, Entry, InsertRefusal, MAX_POOL, MAX_WISH, PLACES, entry_of, is_depot, is_list,
     names_of, on_list, pool_of,
 };
 use std::test::Fail;
@@ -178,21 +178,36 @@ fn lists_and_what_is_none(rt: HostRuntime) {
 
 #[test]
 fn a_count_past_the_place_stands_for_all_of_it(rt: HostRuntime) {
-    let mut place = Entries::of(&[entry(3, 1, 0); 99]);
+    let mut place = Entries::counted([entry(3, 1, 0); PLACES], 99);
     assert_eq!(rt; place.as_slice().len(), 16);
     assert_eq!(rt;
         fill(&mut place, &[entry(4, 1, 0)]),
         Err(InsertRefusal::Full)
     );
     assert!(rt; place.as_slice() == &[entry(3, 1, 0); 16][0..16]);
+    assert_eq!(rt; Entries::of(&[entry(3, 1, 0); 99]).as_slice().len(), 16);
 }
 
 #[test]
 fn a_clone_is_a_place_of_its_own(rt: HostRuntime) -> Result<(), Fail> {
     let mut place = Entries::of(&[entry(2, 4, 5), entry(15, 9, 0)]);
-    let copy = place.clone()?;
+    let clone = place.clone()?;
+    let copy = place;
     place.insert(entry(3, 0, 0))?;
     assert_eq!(rt; place.as_slice().len(), 3);
-    assert!(rt; copy.as_slice() == &[entry(2, 4, 5), entry(15, 9, 0)][0..2]);
+    assert!(rt; clone.as_slice() == &[entry(2, 4, 5), entry(15, 9, 0)][0..2]);
+    assert!(rt; copy.as_slice() == clone.as_slice());
+    Ok(())
+}
+
+#[test]
+fn a_place_is_filled_anew(rt: HostRuntime) -> Result<(), Fail> {
+    let mut place = Entries::of(&[entry(2, 4, 5), entry(3, 1, 1), entry(15, 9, 0)]);
+    place.refill(&[entry(9, 7, 0)]);
+    assert!(rt; place.as_slice() == &[entry(9, 7, 0)][0..1]);
+    place.insert(entry(4, 0, 1))?;
+    assert!(rt; place.as_slice() == &[entry(4, 0, 1), entry(9, 7, 0)][0..2]);
+    place.clear();
+    assert!(rt; place.as_slice().is_empty());
     Ok(())
 }

@@ -1,5 +1,4 @@
 use Rattle.std.proofs.Common.{length, sym, ap, ◌∙◌, arith}
-use Rattle.std.proofs.lemmas.Bool.{eqb-true}
 use Rattle.std.specs.List.{insert as inserted, prefix_len}
 use Rattle.entries.specs.declared.filling.InsertRefusal.TheVariants.{Present, Full, PastLimit}
 use Rattle.entries.proofs.Width.{as_many_marks}
@@ -13,11 +12,9 @@ returns-then-on_list c =
     refused c.args.entry list _ c.as_slice-list.ensures.list Present
     (is_present c.args.entry list (sym c.if-on_list.ensures))
 
-pub returns-then-is_full : goal.returns-then-is_full
-returns-then-is_full c =
+pub returns-then-list-eq-PLACES : goal.returns-then-list-eq-PLACES
+returns-then-list-eq-PLACES c =
     let list = c.as_slice-list.result.now in
-    let same = ap length (c.as_slice-list.ensures.list ∙ sym c.self.view_is) in
-    let many = eqb-true _ _ (sym c.if-is_full.ensures.value) in
     refused c.args.entry list _ c.as_slice-list.ensures.list Full
     (is_full c.args.entry list (sym c.if-on_list.ensures) (omega (arith, as_many_marks)))
 
@@ -26,8 +23,14 @@ returns-then-not-may_hold c =
     let list = c.as_slice-list.result.now in
     refused c.args.entry list _ c.as_slice-list.ensures.list PastLimit
     (is_past_limit c.args.entry list (sym c.if-on_list.ensures)
-    (room_left list _ (c.as_slice-list.ensures.list ∙ sym c.self.view_is) (sym c.if-is_full.ensures.value) c.if-is_full.ensures.fits)
+    (room_left list c.if-list-eq-PLACES.false c.as_slice-list.ensures.few)
     (sym c.if-not-may_hold.ensures))
+
+pub put_at-requires-clause-room : goal.put_at-requires-clause-room
+put_at-requires-clause-room c =
+    let same = ap length c.as_slice-list.ensures.list in
+    let room = room_left c.as_slice-list.result.now c.if-list-eq-PLACES.false c.as_slice-list.ensures.few in
+    omega arith
 
 pub returns : goal.returns
 returns c =
@@ -35,9 +38,7 @@ returns c =
     let es = c.args.self.now in
     let at = c.place_for-place.ensures.place ∙ ap (prefix_len (not_above e)) c.as_slice-list.ensures.list in
     taken e c.as_slice-list.result.now es c.as_slice-list.ensures.list
-    (c.insert.ensures.items
-    ∙ (ap (λ xs. inserted xs c.place_for-place.result e) c.self.view_is
-    ∙ (ap (λ k. inserted es k e) at ∙ sym (insert_at e es))))
+    (c.put_at.ensures ∙ (ap (λ n. inserted es n e) at ∙ sym (insert_at e es)))
     (sym c.if-on_list.ensures)
-    (room_left _ _ (c.as_slice-list.ensures.list ∙ sym c.self.view_is) (sym c.if-is_full.ensures.value) c.if-is_full.ensures.fits)
+    (room_left c.as_slice-list.result.now c.if-list-eq-PLACES.false c.as_slice-list.ensures.few)
     (sym c.if-not-may_hold.ensures)
