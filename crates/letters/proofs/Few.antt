@@ -1,13 +1,12 @@
 -- A letter has few entries: no kind has more than there can be depots.
-use Rattle.std.proofs.Common.{◌≡◌, ℕ, ◌/◌, ◌%◌, ◌^◌, ◌<◌, ◌≤◌, true, eqb, List, [], length, take, arith}
+use Rattle.std.proofs.Common.{◌≡◌, ℕ, ◌/◌, ◌%◌, ◌^◌, ◌<◌, ◌≤◌, true, eqb, List, [], length, arith}
 use Rattle.std.proofs.lemmas.Bool.{and_parts, eqb-true, ne_eqb}
 use Rattle.std.proofs.lemmas.Bool.Decides.{nat_tests}
-use Rattle.std.proofs.lemmas.List.{take_all, nil_from_length}
+use Rattle.std.proofs.lemmas.List.{nil_from_length}
 use Rattle.entries.specs.Limits.{max_depots}
 use Rattle.letters.specs.Format.{entry_len}
 use Rattle.letters.specs.Contents.{offer_kind, list_kind}
-use Rattle.letters.specs.Reading.{count_fits, length_fits, entries_in}
-use Rattle.letters.proofs.Forth.{count_entries}
+use Rattle.letters.specs.Reading.{count_fits, length_fits}
 
 count_few : (kind n : ℕ) → count_fits kind n ≡ true → n ≤ max_depots
 unfolding max_depots
@@ -23,13 +22,6 @@ module _ (kind n : ℕ) (h : length_fits kind n ≡ true) where
   pub length_few : n < 2 ^ 16
   unfolding max_depots
   length_few = omega (arith, count_few kind (n / entry_len) count, length_whole)
-
--- a place has room for all of them
-pub all_placed : (kind : ℕ) (bs : List ℕ) → length_fits kind (length bs) ≡ true →
-    take max_depots (entries_in bs) ≡ entries_in bs
-all_placed k bs h =
-    let n = length bs / entry_len in
-    take_all max_depots (entries_in bs) (omega (arith, count_entries n bs, count_few k n (count k (length bs) h)))
 
 -- only an Offer and a List have bytes after the head
 pub no_entries : (kind : ℕ) (bs : List ℕ) → length_fits kind (length bs) ≡ true → (kind ≡ offer_kind → ⊥) →

@@ -39,6 +39,6 @@ impl Message {
     {
         self.kind = kind;
         self.head = head;
-        self.entries = Entries::of(entries);
+        self.entries.refill(entries);
     }
 }

@@ -8,8 +8,8 @@ ghost use Rattle.letters.specs.Code.{refusal_of, kind_number, letter_kind, lette
 
 use crate::entry_codec::{check_entry, refuse};
 use crate::format::{CODE_AT, ENTRY_LEN, HEAD_LEN, LEADER_AT, NUMBER_AT, SENDER_AT};
-use crate::{EntryReader, Head, Kind, Letter, Unread, Unreadable, entries_in};
-use entries::{is_depot, pool_of};
+use crate::{EntryReader, Head, Kind, Letter, Unread, Unreadable};
+use entries::{MAX_POOL, is_depot};
 
 /// What follows a letter's mark, of a kind and of a length that the kind can have. Its values are unchecked.
 #[derive(Drop)]
@@ -78,14 +78,25 @@ impl<'a> Unchecked<'a> {
         Ok(())
     }
 
+    // The pieces on the shelves of all entries.
+    // no `pool_of` of a list: the entries are summed where they lie, and not copied for it
+    fn pool(&self) -> u64
+        ensures { result ≡ pool (entries_in self.now.entries.now) }
+    {
+        let mut sum = 0;
+        for (_, entry) in EntryReader::new(self.entries, 0) {
+            sum += u64::from(entry.shelf);
+        }
+        sum
+    }
+
     // Checks that a List's shelves hold no more together than a list may pool.
-    #[tactic(auto, using(crate::proofs::Few::all_placed))]
     fn check_pool(&self) -> Result<(), Unread>
         ensures { refusal_of result
             ≡ first_failed (sum_tests (kind_number self.now.kind) (entries_in self.now.entries.now)) }
     {
         match self.kind {
-            Kind::List if pool_of(entries_in(self.entries).as_slice()).is_none() => {
+            Kind::List if self.pool() > u64::from(MAX_POOL) => {
                 refuse(Unreadable::NotAList, HEAD_LEN)
             }
             _ => Ok(()),

@@ -1,6 +1,6 @@
 // The worked letters, written and read, and what writing does to a buffer.
 use crate::samples::{ASK, LIST, OFFER};
-use entries::{Depots, Entry};
+use entries::{Depots, Entries, Entry};
 use letters::{Head, Kind, Message, read, write};
 use std::process::Abort;
 use std::test::Fail;
@@ -77,18 +77,16 @@ fn list(rt: HostRuntime) {
         code: 1,
         number: 1,
     };
-    let entries = [
-        Entry {
-            depot: 0,
-            shelf: 4,
-            wish: 0,
-        },
-        Entry {
-            depot: 2,
-            shelf: 1,
-            wish: 6,
-        },
-    ];
-    message.set(Kind::List, head, &entries);
+    let mut items = [Entry {
+        depot: 0,
+        shelf: 4,
+        wish: 0,
+    }; 16];
+    items[1] = Entry {
+        depot: 2,
+        shelf: 1,
+        wish: 6,
+    };
+    message.set(Kind::List, head, Entries::counted(items, 2).as_slice());
     check_written(&rt, &message, LIST);
 }
