@@ -1,10 +1,12 @@
 // What Receive looks at before it chooses a line: the refusals that come first, where the depot stands in the letter's
 // handover, and what the guards of the lines ask.
-ghost use Rattle.std.specs.Prelude.{◌≡◌, ℕ, ◌<◌};
+ghost use Rattle.std.specs.Prelude.{◌≡◌, ℕ, ◌<◌, List};
 ghost use Rattle.std.specs.List.{AllByRecursion};
 ghost use Rattle.entries.specs.Limits.{max_depots};
 ghost use Rattle.entries.specs.Sets.{has};
 ghost use Rattle.protocol.specs.Listing.{every};
+ghost use Rattle.entries.specs.declared.lists.Entry.{Entry};
+ghost use Rattle.letters.specs.Code.{kind_number, says};
 ghost use Rattle.letters.specs.Writing.{message_says};
 ghost use Rattle.protocol.specs.Code.{standing_number};
 ghost use Rattle.protocol.specs.State.{fits};
@@ -16,7 +18,7 @@ ghost use Rattle.book.specs.Calls.{Admitted};
 
 use crate::record::Record;
 use entries::{Depots, Entry, entry_of, may_hold, names_of, on_list};
-use letters::{Kind, Message};
+use letters::{Head, Kind, Message};
 use policies::Policy;
 use protocol::{Refusal, Situation, Standing};
 
@@ -50,11 +52,11 @@ impl Record {
     /// Refuses another policy (18), a letter not sent to this depot (29), a sender or leader that the set does not have
     /// or the depot itself as sender (30), a number below that in the leader's row (31), one above it unless the letter
     /// is an Ask (32), a new Ask while the depot is engaged (8).
-    pub(crate) fn admit<P: Policy>(&self, letter: &Message) -> Result<(), Refusal>
-        ensures { Admitted (policy_of P.Policy) (message_says letter.now) self.now result }
+    // asked of kind and head alone, so that a letter that is refused is not copied
+    pub(crate) fn admit<P: Policy>(&self, kind: Kind, head: Head) -> Result<(), Refusal>
+        ensures { (es : List Entry) → Admitted (policy_of P.Policy) (says (kind_number kind) head es) self.now result }
     {
         let own = self.identity;
-        let head = letter.head;
         if head.code != own.code || !P::governs(own.code) {
             return Err(Refusal::OtherPolicy);
         }
@@ -69,7 +71,7 @@ impl Record {
             return Err(Refusal::NumberPassed);
         }
         if known < head.number {
-            if letter.kind != Kind::Ask {
+            if kind != Kind::Ask {
                 return Err(Refusal::NumberUnknown);
             }
             if self.engaged() {

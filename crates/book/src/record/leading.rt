@@ -18,6 +18,9 @@ use policies::Policy;
 use protocol::{Refusal, Standing};
 use std::mem::replace;
 
+/// The last number that a handover can have.
+const LAST_NUMBER: u32 = 4_294_967_295;
+
 /// The pieces on the shelves of all entries but that of the depot. A record's lists are no longer than this asks.
 fn elsewhere(list: &[Entry], depot: u8) -> u64
     requires { length list.now ≤ max_depots }
@@ -51,16 +54,17 @@ impl Record {
             return Err(Refusal::ShelfTooGreat);
         }
         let depot = self.identity.depot;
-        let Some(number) = self.row(depot).number.checked_add(1) else {
+        let known = self.row(depot).number;
+        if known == LAST_NUMBER {
             return Err(Refusal::NumbersUsed);
-        };
+        }
         let own = self.own_entry();
         let row = Row {
-            number,
+            number: known + 1,
             standing: Standing::Offered,
         };
         self.rows.put(depot, row);
-        self.gathered = Entries::of(&[own]);
+        self.gathered.refill(&[own]);
         let to = self.rest();
         Ok(self.say(Kind::Ask, to, depot, &[], out))
     }

@@ -9,7 +9,7 @@ ghost use Rattle.book.specs.View.{site, view};
 ghost use Rattle.book.specs.Calls.{at, Becomes, MayBecome, Left, Called};
 
 use crate::record::Record;
-use entries::{Depots, Entries};
+use entries::Depots;
 use letters::{Kind, Message};
 use protocol::{Refusal, Standing};
 
@@ -25,9 +25,9 @@ impl Record {
         self.tray = 0;
         self.wish = wish;
         self.rows.stand(leader, at);
-        self.list = Entries::empty();
+        self.list.clear();
         self.heard = Depots::none();
-        self.gathered = Entries::empty();
+        self.gathered.clear();
     }
 
     /// Ends the handover of a leader with shelf and wish as they are.

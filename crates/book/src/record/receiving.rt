@@ -179,8 +179,8 @@ impl Record {
         ensures { Called (λ a s. take (policy_of P.Policy) a s (letter_says letter.entry)) result
             self.old self.new out.old out.new }
     {
+        self.admit::<P>(letter.kind(), letter.head())?;
         let letter = owned(letter);
-        self.admit::<P>(&letter)?;
         self.follow::<P>(&letter, out)
     }
 

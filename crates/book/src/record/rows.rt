@@ -81,7 +81,8 @@ impl Record {
     // no Option: 0 is what the definition says too, and each caller looks at the row that is named
     #[tactic(auto, using(crate::proofs::Engaged::leader_is, entries::proofs::Width::as_many_marks))]
     pub(crate) fn leader(&self) -> u8
-        ensures { result ≡ leader (site self.now) (view self.now) }
+        ensures value { result ≡ leader (site self.now) (view self.now) }
+        ensures low { result < max_depots }
     {
         // `as`: a place among sixteen rows fits, and `TryFrom` would add a case that cannot happen
         engaged_in(self.rows()).unwrap_or(0) as u8

@@ -1,5 +1,4 @@
-use Rattle.std.proofs.Common.{◌≡◌, ℕ, ◌+◌, List, [], ◌∷◌, take, Some, None, Option, sym, refl, ap, ◌∙◌, arith}
-use Rattle.std.specs.Option.{SomeIff}
+use Rattle.std.proofs.Common.{◌≡◌, ℕ, ◌+◌, List, [], ◌∷◌, take, sym, refl, ap, ◌∙◌, arith}
 use Rattle.std.proofs.lemmas.List.{take_all}
 use Rattle.std.proofs.lemmas.Bool.Decides.{nat_tests}
 use Rattle.entries.specs.declared.lists.Entry.{Entry}
@@ -13,18 +12,13 @@ use Rattle.book.specs.declared.record.Record.{Record}
 use Rattle.book.specs.Calls.{at}
 use Rattle.book.specs.Fields.{rows_of}
 use Rattle.book.specs.View.{site, view, own_entry}
-use Rattle.book.proofs.Kept.{written_kept, number_high}
+use Rattle.book.proofs.Kept.{written_kept}
 use Rattle.book.proofs.Answering.{call_refused}
 use Rattle.book.proofs.Stepping.{sound_by, law_after, said_fine, step_said}
 use Rattle.book.proofs.Written.{make, state_is}
 use Rattle.book.proofs.Outcomes.{leads}
-use Rattle.book.proofs.record.Record.lead.Goals.{After-of-self}
+use Rattle.book.proofs.record.Record.lead.Goals.{After-refill}
 use Rattle.book.proofs.record.Record.lead.Goals as goal
-
--- a sum that is none does not fit
-past_last : {P : Type 0} (v : ℕ) (o : Option ℕ) → SomeIff o P v → ((x : ℕ) → o ≡ Some x → ⊥) → P → ⊥
-past_last v None h none = h
-past_last v (Some x) h none = absurd (none x refl)
 
 -- the rows with a number in the own row, which stands at 1
 abbrev at_number : Record → ℕ → ℕ → Row
@@ -56,50 +50,46 @@ pub returns-then-self-gt-MAX_POOL : goal.returns-then-self-gt-MAX_POOL
 unfolding lead pick
 returns-then-self-gt-MAX_POOL c = call_refused (grind (arith, nat_tests))
 
-pub returns-in_default : goal.returns-in_default
+pub returns-then-known : goal.returns-then-known
 unfolding lead pick
-returns-in_default c =
-    let r = c.args.self.now in
-    let same = ap (λ x. x.number) c.row.ensures in
-    let past = past_last _ c.checked_add.result c.checked_add.ensures c.in_default.not-Some in
-    let high = number_high (site r) (view r) r.identity.depot r.kept in
-    let last : ((view r).rows r.identity.depot).number ≡ 4294967295 = grind arith in
+returns-then-known c =
+    let same = ap (λ x. x.number) c.row-known.ensures in
     call_refused (grind (arith, nat_tests))
 
 -- what it comes to once no test refuses
-leads_now : (c : After-of-self)
+leads_now : (c : After-refill)
     → at lead c.args.self.now ≡ serves (led (site c.args.self.now) (view c.args.self.now))
     (mail (site c.args.self.now) (led (site c.args.self.now) (view c.args.self.now)) kinds.Ask
     (rest (site c.args.self.now)) c.args.self.now.identity.depot [])
 leads_now c =
-    let same = ap (λ x. x.number) c.row.ensures in
-    let fits = c.in-Some.ensures.0 in
+    let same = ap (λ x. x.number) c.row-known.ensures in
+    let apart = c.if-known.false in
     leads _ _ (sym c.engaged.ensures ∙ c.if-engaged.false) (sym c.is_empty.ensures ∙ c.if-not-is_empty.false)
     (λ e. omega arith) (omega arith) (λ e. omega arith)
 
 -- the record is written so
-written : (c : After-of-self) → make c.args.self.now.shelf c.args.self.now.tray c.args.self.now.wish
-    (rows_of c.put.new.self.of) (view c.args.self.now).list (view c.args.self.now).heard c.of-self.result
+written : (c : After-refill) → make c.args.self.now.shelf c.args.self.now.tray c.args.self.now.wish
+    (rows_of c.put.new.self.of) (view c.args.self.now).list (view c.args.self.now).heard c.refill.new.self
     (view c.args.self.now).owing ≡ led (site c.args.self.now) (view c.args.self.now)
 written c =
     let r = c.args.self.now in
-    led_now r (c.put.ensures ∙ ap (at_number r) c.in-Some.ensures.1) (ap (λ x. x.number) c.row.ensures)
-    c.of-self.ensures c.own_entry-own.ensures
+    led_now r c.put.ensures (ap (λ x. x.number) c.row-known.ensures)
+    c.refill.ensures c.own_entry-own.ensures
 
 pub invariant_of-self-clause-kept : goal.invariant_of-self-clause-kept
 invariant_of-self-clause-kept c =
     let r = c.args.self.now in
-    let h = (goal.at.invariant_of-self-clause-kept c).After-of-self in
+    let h = (goal.at.invariant_of-self-clause-kept c).After-refill in
     written_kept (site r) _ _ (written h) (law_after (sound_by lead r (λ k. k.lead)) (leads_now h))
 
 pub say-requires : goal.say-requires
 say-requires c =
     let r = c.args.self.now in
-    let h = (goal.at.say-requires c).After-of-self in
+    let h = (goal.at.say-requires c).After-refill in
     said_fine (sound_by lead r (λ k. k.lead)) kinds.Ask r.identity.depot [] (leads_now h) refl (written h)
     c.rest-to.ensures
 
 pub returns : goal.returns
 returns c =
-    let h = (goal.at.returns c).After-of-self in
+    let h = (goal.at.returns c).After-refill in
     step_said kinds.Ask c.args.self.now.identity.depot [] (leads_now h) refl (written h) c.rest-to.ensures c.say.ensures

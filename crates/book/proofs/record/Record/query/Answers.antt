@@ -13,7 +13,7 @@ use Rattle.book.proofs.record.Record.query.Goals as goal
 pub returns-then-ne : goal.returns-then-ne
 returns-then-ne c =
     let r = c.args.self.now in
-    call_refused (query_refuses (site r) (view r) c.leader-leader.result c.leader-leader.ensures
+    call_refused (query_refuses (site r) (view r) c.leader-leader.result c.leader-leader.ensures.value
     (stands_elsewhere _ Accepted c.standing.ensures (sym c.ne.ensures ∙ c.if-ne.true)))
 
 -- a bound depot asks the others on the list
@@ -21,7 +21,7 @@ asks : (c : After-others-to)
     → Says query c.args.self.now c.args.self.now kinds.Query c.others-to.result.0 c.leader-leader.result []
 asks c =
     let r = c.args.self.now in
-    says (query_bound (site r) (view r) c.leader-leader.result c.leader-leader.ensures
+    says (query_bound (site r) (view r) c.leader-leader.result c.leader-leader.ensures.value
     (stands_still _ Accepted c.standing.ensures (sym c.ne.ensures ∙ c.if-ne.false))) refl refl c.others-to.ensures
 
 pub say-requires : goal.say-requires

@@ -1,4 +1,4 @@
-use Rattle.std.proofs.Common.{◌≡◌, sym, refl, ap, ◌∙◌, arith}
+use Rattle.std.proofs.Common.{◌≡◌, sym, refl, ap, ◌∙◌}
 use mathlib.Core.Option.{none}
 use Rattle.protocol.specs.declared.standing.Standing.TheVariants.{Offered, Accepted}
 use Rattle.protocol.specs.State.{hears, pair}
@@ -6,7 +6,6 @@ use Rattle.protocol.specs.Outcome.{serves}
 use Rattle.protocol.specs.Own.{restart}
 use Rattle.book.specs.Calls.{at}
 use Rattle.book.specs.View.{site, view}
-use Rattle.book.proofs.Kept.{stood_low}
 use Rattle.book.proofs.Standings.{stands, stands_not}
 use Rattle.book.proofs.Answering.{left_served}
 use Rattle.book.proofs.Stepping.{sound_by, law_after}
@@ -21,12 +20,6 @@ returns-then-eq c =
     (restart_gathering (site r) (view r) (stands _ Offered c.standing.ensures (sym c.eq.ensures ∙ c.if-eq.true)))
     c.end.ensures.state c.end.ensures.same
 
-pub with-self-requires : goal.with-self-requires
-with-self-requires c =
-    let r = c.args.self.now in
-    let k = stands _ Accepted c.standing-2.ensures (sym c.eq-2.ensures ∙ c.if-eq-2.true) in
-    stood_low (site r) (view r) c.leader-leader.result (omega arith) r.kept
-
 -- a bound depot has heard itself and the leader
 bound_still : (c : After-with-self)
     → at restart c.args.self.now ≡ serves (hears c.with-self.result.0 (view c.args.self.now)) none
@@ -34,7 +27,7 @@ bound_still c =
     let r = c.args.self.now in
     let l = c.leader-leader.result in
     let h : pair (site r) l ≡ c.with-self.result.0 = cc in
-    restart_bound (site r) (view r) l c.leader-leader.ensures
+    restart_bound (site r) (view r) l c.leader-leader.ensures.value
     (stands_not _ Offered c.standing.ensures (sym c.eq.ensures ∙ c.if-eq.false))
     (stands _ Accepted c.standing-2.ensures (sym c.eq-2.ensures ∙ c.if-eq-2.true))
     ∙ ap (λ x. serves (hears x (view r)) none) h
@@ -52,6 +45,6 @@ pub returns-else-eq-2 : goal.returns-else-eq-2
 returns-else-eq-2 c =
     let r = c.args.self.now in
     left_served r r
-    (restart_free (site r) (view r) c.leader-leader.result c.leader-leader.ensures
+    (restart_free (site r) (view r) c.leader-leader.result c.leader-leader.ensures.value
     (stands_not _ Offered c.standing.ensures (sym c.eq.ensures ∙ c.if-eq.false))
     (stands_not _ Accepted c.standing-2.ensures (sym c.eq-2.ensures ∙ c.if-eq-2.false))) refl refl

@@ -14,7 +14,7 @@ use Rattle.book.proofs.record.Record.withdraw.Goals as goal
 pub returns-then-ne : goal.returns-then-ne
 returns-then-ne c =
     let r = c.args.self.now in
-    call_refused (withdraw_refuses (site r) (view r) c.leader-leader.result c.leader-leader.ensures
+    call_refused (withdraw_refuses (site r) (view r) c.leader-leader.result c.leader-leader.ensures.value
     (stands_elsewhere _ Offered c.standing.ensures (sym c.ne.ensures ∙ c.if-ne.true)))
 
 -- a leader drops its handover
@@ -22,7 +22,7 @@ leading : (c : After-rest-to)
     → Says withdraw c.args.self.now c.end.new.self kinds.Drop c.rest-to.result.0 c.leader-leader.result []
 leading c =
     let r = c.args.self.now in
-    says (withdraw_leading (site r) (view r) c.leader-leader.result c.leader-leader.ensures
+    says (withdraw_leading (site r) (view r) c.leader-leader.result c.leader-leader.ensures.value
     (stands_still _ Offered c.standing.ensures (sym c.ne.ensures ∙ c.if-ne.false))
     (c.if-leader-self.true ∙ ap (λ a. a.depot) c.end.ensures.same)) c.end.ensures.same c.end.ensures.state
     (c.rest-to.ensures ∙ ap rest c.end.ensures.same)
@@ -42,7 +42,7 @@ following c =
     let r = c.args.self.now in
     let l = c.leader-leader.result in
     let d : l ≡ (site r).depot → ⊥ = λ x. (let y = ap (λ a. a.depot) c.end.ensures.same in omega arith) in
-    says (withdraw_following (site r) (view r) l c.leader-leader.ensures
+    says (withdraw_following (site r) (view r) l c.leader-leader.ensures.value
     (stands_still _ Offered c.standing.ensures (sym c.ne.ensures ∙ c.if-ne.false)) d) c.end.ensures.same
     c.end.ensures.state c.mark.ensures
 
