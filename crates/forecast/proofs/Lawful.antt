@@ -1,6 +1,6 @@
 -- What lawful lamps give: each of them is lawful, and the forecast over them stays far below 2 to the power 32, since a
 -- lamp needs at most its hours and the period together. And the first unlawful lamp is the library's first place.
-use Rattle.std.proofs.Common.{◌≡◌, ℕ, ◌+◌, ◌<◌, ◌≤◌, ◌^◌, cond, not, true, false, List, [], ◌∷◌, length, Some, None, refl, ◌∙◌, ⊎_elim, div-le_self, arith}
+use Rattle.std.proofs.Common.{◌≡◌, ℕ, ◌+◌, ◌≤◌, cond, not, true, false, List, [], ◌∷◌, length, Some, None, refl, ◌∙◌, ⊎_elim, div-le_self, arith}
 use Rattle.std.specs.List.{All, position, position_from}
 use Rattle.std.proofs.lemmas.Iterator.Adapters.{position_from-zero}
 use Rattle.std.proofs.lemmas.List.Elements.{All-cons, All-nil, All-weaker}
@@ -44,7 +44,7 @@ need_bound period lamp short h =
     omega (arith, div-le_self (lamp.hours + period) lamp.life)
 
 pub forecast_bound : (period : ℕ) (lamps : List Lamp) → length lamps ≤ max_lamps → period ≤ max_period →
-    all_lawful lamps ≡ true → forecast period lamps < 2 ^ 32
+    all_lawful lamps ≡ true → forecast period lamps ≤ 1010000000
 forecast_bound period lamps few short h =
     let each = All-weaker _ _ (λ lamp. need_bound period lamp short) lamps (each_lawful lamps h) in
     omega (arith, sum_by-le (lamp_need period) 1010000 lamps each)

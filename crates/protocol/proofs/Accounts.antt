@@ -99,7 +99,7 @@ module _ {P : Policy} (lawful : LawfulPolicy P) {o : Opening} where
         }
 
   module _ (ok : LawfulOpening o) where
-    accounted : {w : Stage} (s : Series P o (just_opened o) w) → Accounted s
+    pub accounted : {w : Stage} (s : Series P o (just_opened o) w) → Accounted s
     accounted start = accounted_start
     accounted (then s d c a) =
         let h = invariant lawful ok s in

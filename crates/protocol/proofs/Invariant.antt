@@ -30,7 +30,7 @@ use Rattle.protocol.proofs.SafeNext.{safe_next}
 use Rattle.protocol.proofs.Leaders.{leaders_next}
 
 -- a call that leaves a record as it was leaves the history as it was
-same_next : {N : ℕ} {w : History} → Safe N w → (d : ℕ) → next w d (w.at d) none ≡ w
+pub same_next : {N : ℕ} {w : History} → Safe N w → (d : ℕ) → next w d (w.at d) none ≡ w
 same_next {w = w} g d = ap (λ u. mk u (next w d (w.at d) none).past (next w d (w.at d) none).lists) e1
     ∙ (ap (λ u. mk w.at u (next w d (w.at d) none).lists) e2 ∙ ap (λ u. mk w.at w.past u) e3)
   where
@@ -179,7 +179,7 @@ module _ {P : Policy} {o : Opening} {w : Stage} {s : Series P o (just_opened o) 
   pub hand_history : (t : Allowed w d Hand) → history (then s d Hand t) ≡ history s
   hand_history t = ap₂ (λ u v. next (history s) d u v) hand_is.same hand_is.silent ∙ same_next h.safe d
 
-  hand_invariant : (t : Allowed w d Hand) → Invariant (then s d Hand t)
+  pub hand_invariant : (t : Allowed w d Hand) → Invariant (then s d Hand t)
   hand_invariant t =
       record {
         safe = rw (hand_history t) h.safe;

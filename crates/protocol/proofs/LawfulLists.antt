@@ -47,12 +47,12 @@ asks_is kinds.Drop h = absurd (false≢true h)
 asks_is kinds.Query h = absurd (false≢true h)
 asks_is kinds.Done h = absurd (false≢true h)
 
-fits_on : (d n v : ℕ) (ℓ : List Entry) → fits d n v ℓ ≡ true → (on ℓ d ≡ true) × ((entry_of ℓ d).shelf ≡ n)
+pub fits_on : (d n v : ℕ) (ℓ : List Entry) → fits d n v ℓ ≡ true → (on ℓ d ≡ true) × ((entry_of ℓ d).shelf ≡ n)
     × ((entry_of ℓ d).wish ≡ v)
 unfolding fits
 fits_on d n v ℓ h = grind arith
 
-every_all : (N : ℕ) (ℓ : List Entry) → every ℓ (λ y. ltb y N) ≡ true → AllByRecursion (λ e. e.depot < N) ℓ
+pub every_all : (N : ℕ) (ℓ : List Entry) → every ℓ (λ y. ltb y N) ≡ true → AllByRecursion (λ e. e.depot < N) ℓ
 unfolding every
 every_all N [] h = tt
 every_all N (e ∷ ℓ) h = let (a, b) = and_parts (ltb e.depot N) (every ℓ (λ y. ltb y N)) h in

@@ -52,7 +52,7 @@ data Held (w : History) (d : ℕ) (s : State) (L : ℕ) : Type 0 where
 
 -- What d's record comes to be, and how its rows moved. What is sent plays no part but in the last
 module _ {N : ℕ} {w : History} {d : ℕ} (g : Safe N w) {s : State} (mv : RowMove N w d s) where
-  abbrev w' : History
+  abbrev pub w' : History
   w' = next w d s none
 
   pub now_d : (L : ℕ) → w'.past d L (s.rows L).number ≡ (s.rows L).standing

@@ -50,7 +50,7 @@ sum_one (suc N) d f g l e = elim (cases_eq d N) [
 ]
 
 -- a function that is 0 but at d
-sum_at : (N d : ℕ) (f : ℕ → ℕ) → d < N → ((x : ℕ) → (x ≡ d → ⊥) → f x ≡ 0) → sum_to N f ≡ f d
+pub sum_at : (N d : ℕ) (f : ℕ → ℕ) → d < N → ((x : ℕ) → (x ≡ d → ⊥) → f x ≡ 0) → sum_to N f ≡ f d
 sum_at N d f l e =
     let q = sum_one N d f (λ _. 0) l e in let r = sum_none N (λ _. 0) (λ _ _. refl) in omega arith
 
