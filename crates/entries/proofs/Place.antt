@@ -103,7 +103,7 @@ module _ (place : Inside) (es : List Entry) (e : Entry) (k : ℕ) (is : Filled p
       let all : k + (place.count - k) ≡ place.count = omega arith in
       drop-drop (place.count - k) k place.items ∙ ap (λ m. drop m place.items) all
 
-  moved_up : (part : List Entry) → part ≡ turned (between k place.count place.items)
+  pub moved_up : (part : List Entry) → part ≡ turned (between k place.count place.items)
       → put_mid k (place.count - k) place.items part ≡ inserted es k e ++ drop place.count place.items
   moved_up part is =
       let parts : put_mid k (place.count - k) place.items part

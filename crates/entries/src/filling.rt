@@ -62,6 +62,7 @@ fn place_for(list: &[Entry], depot: u8) -> usize
     ensures place { result ≡ prefix_len (λ e. not (nat_lt depot e.depot)) list.now }
     ensures within { result ≤ length list.now }
 {
+    // no `unwrap_or`: what is answered where one is found stands on a line of its own, which an edit can turn
     match list.iter().position(|next| depot < next.depot) {
         Some(place) => place,
         None => list.len(),
@@ -88,11 +89,18 @@ impl Entries {
         place
     }
 
+    /// A place with the first `count` of these entries. A count past their end stands for all of them.
+    pub fn counted(items: [Entry; PLACES], count: usize) -> Entries
+        ensures { result ≡ take count items }
+    {
+        Entries::of(&items[..count.min(PLACES)])
+    }
+
     /// Takes every entry out of the place.
     pub fn clear(&mut self)
         ensures { self.new ≡ [] }
     {
-        // most places that are cleared are empty: a test costs less than the writing
+        // tested, and not written anew each time: many places that are cleared are empty already
         if self.count > 0 {
             *self = Entries::empty();
         }
@@ -115,13 +123,6 @@ impl Entries {
         ensures few { length result.now ≤ max_depots }
     {
         &self.items[..self.count]
-    }
-
-    /// A place with the first `count` of these entries. A count past their end stands for all of them.
-    pub fn counted(items: [Entry; PLACES], count: usize) -> Entries
-        ensures { result ≡ take count items }
-    {
-        Entries::of(&items[..count.min(PLACES)])
     }
 
     /// Puts an entry behind the others. Callers have counted that there is room.
@@ -155,7 +156,7 @@ impl Entries {
         Ok(())
     }
 
-    // Puts an entry at a place: it is written behind the others, and those from the place on then move up by one.
+    /// Puts an entry at a place: it is written behind the others, and those from the place on then move up by one.
     fn put_at(&mut self, place: usize, entry: Entry)
         requires within { place ≤ length self.old }
         requires room { length self.old < max_depots }

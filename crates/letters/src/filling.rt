@@ -39,6 +39,11 @@ impl Message {
     {
         self.kind = kind;
         self.head = head;
-        self.entries.refill(entries);
+        // most letters have no entries, and are said in a message that has none: no place is written for them
+        if entries.is_empty() {
+            self.entries.clear();
+        } else {
+            self.entries = Entries::of(entries);
+        }
     }
 }
